@@ -12,11 +12,12 @@ from itertools import count
 import faults
 import jobs
 from replicas import Crashed
-from rules import Refusal, expired
-from server import Server, route_of
+from rules import NAME, Refusal, expired
+from server import Server, route_of, stamp
 
 TICK, BOOKMARK = 1, 60
 MISFORTUNES = ("killed before", "killed after") + ("stalled before", "stalled after") * 2
+AFTER_STOP = ("PATCH jobs", "DELETE jobs", "POST events", "PATCH events")
 METHODS = ("GET", "POST", "PATCH", "PUT", "DELETE")
 
 
@@ -55,7 +56,7 @@ class Replica:
         self.last_id, self.skew, self.all_watches = 0, 0, set()
 
     def who(self):
-        return f"cronsim/{self.number}.{self.life}"
+        return f"cronsim-control/{self.number}.{self.life}"
 
 
 class Bench:
@@ -97,7 +98,12 @@ class Bench:
             self.later(self.dice.expovariate(1 / 200), self.compact)
             self.plan_bursts()
         self.later(self.scenario.storm, self.calm_down)
-        end = self.clock.now + self.scenario.storm + self.scenario.quiet
+        self.go(self.scenario.storm + self.scenario.quiet)
+        self.stop()
+
+    def go(self, seconds):
+        """Lets so much time pass."""
+        end = self.clock.now + seconds
         loops = (self.controller, self.collector)
         while True:
             at = min([self.waiting[0][0]] + [it.next() for it in loops if it.waiting])
@@ -109,7 +115,6 @@ class Bench:
                 do(*given)
             for loop in loops:
                 loop.step()
-        self.stop()
 
     def plan_bursts(self):
         """Beside some whole minutes many writes of all replicas go wrong, and a user edits."""
@@ -236,6 +241,8 @@ class Bench:
                 fault = "no body"
             elif method == "PATCH" and "contentType" not in request:
                 fault = "no contentType"
+            elif not NAME.fullmatch(route_of(request["path"]).name or "none"):
+                fault = "a name that is none"
         except (ValueError, KeyError, TypeError, AttributeError):
             fault = "no request"
         if fault:
@@ -295,6 +302,8 @@ class Bench:
         told = {"id": request["id"]}
         if fate.what == "refused":
             told |= {"status": fate.code, "body": self.plan.refusal(fate.code)}
+        elif fate.what == "foreign":
+            told |= self.plan.foreign()
         elif fate.what == "dropped":
             told = self.lost(request)
         else:
@@ -323,6 +332,9 @@ class Bench:
             self.later(fate.before, self.open_watch, *given)
         elif fate.what == "refused":
             told = {"id": request["id"], "status": fate.code, "body": self.plan.refusal(fate.code)}
+            self.later(fate.before, self.answer, replica, replica.life, told)
+        elif fate.what == "foreign":
+            told = {"id": request["id"]} | self.plan.foreign()
             self.later(fate.before, self.answer, replica, replica.life, told)
         else:
             self.later(fate.before, self.answer, replica, replica.life, self.lost(request))
@@ -388,17 +400,19 @@ class Bench:
                 replica.machine = None
 
     def finish(self, replica):
-        """What is wrong after a replica was told to stop, while its requests are answered."""
+        """What is wrong after a replica was told to stop, while its requests are answered. What it
+        has claimed it may still start."""
         lines = [{"stop": True}, *self.under_way(replica)]
-        for place, told in enumerate(lines):
+        while lines:
             try:
-                more = fed(replica.machine, told)
+                more = [json.loads(it) for it in fed(replica.machine, lines.pop(0))]
             except Crashed as crash:
-                is_last = place == len(lines) - 1
-                fine = is_last and str(crash) == "status 0"
-                return [] if fine else [f"{crash}, with {len(lines) - 1 - place} under way"]
-            if more:
-                return [f"asks after it was told to stop: {more[0][:200]}"]
+                fine = not lines and str(crash) == "status 0"
+                return [] if fine else [f"{crash}, with {len(lines)} under way"]
+            for request in more:
+                if point_of(request) not in AFTER_STOP:
+                    return [f"asks after it was told to stop: {str(request)[:200]}"]
+                lines.append(self.carried_out(request, replica.who()))
         return []
 
     def under_way(self, replica):
@@ -419,4 +433,13 @@ class Bench:
         kind = request.get("contentType", "application/json")
         words = request["method"], request["path"], request.get("body"), kind
         status, body = self.server.call(*words, who=who, tag=request["id"])
-        return {"id": request["id"], "status": status, "body": body}
+        if request["path"] == "/version":
+            body = body | {"minor": str(self.scenario.minor_for(who))}
+        told = {"id": request["id"], "status": status}
+        if self.scenario.tells_date:
+            told["date"] = stamp(self.clock.now)
+        most = self.scenario.most_bytes
+        if most and len(json.dumps(body)) > most:
+            # (the transport reads no more of it, and says so)
+            return told | {"status": 413}
+        return told | {"body": body}

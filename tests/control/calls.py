@@ -136,7 +136,7 @@ def create(dice, resource, name):
         owner = {"apiVersion": "batch/v1beta1", "kind": "CronJob", "name": "x", "controller": True}
         meta["ownerReferences"] = [owner | {"uid": "$uid 0 cronjobs x"}] * dice.choice((1, 1, 1, 2))
     if dice.random() < 0.5:
-        meta["annotations"] = {"cronsim/held": "true"}
+        meta["annotations"] = {"cronsim/held": "suspend"}
     if dice.random() < 0.2:
         meta["finalizers"] = ["example.com/f"]
     return "POST", "jobs", name, None, {"metadata": meta, "spec": spec}, None
@@ -183,7 +183,7 @@ def put(dice, resource, name):
 def start(dice, resource, name):
     age, held = dice.choice((0, 0, 9)), "/metadata/annotations/cronsim~1held"
     body = [{"op": "test", "path": "/metadata/uid", "value": f"$uid {age} jobs {name}"}]
-    body += [{"op": "test", "path": held, "value": "true"}, {"op": "remove", "path": held}]
+    body += [{"op": "test", "path": held, "value": "suspend"}, {"op": "remove", "path": held}]
     body.append({"op": dice.choice(("add", "replace")), "path": "/spec/parallelism", "value": 1})
     return "PATCH", "jobs", name, None, dice.sample(body, len(body)), JSON_PATCH
 

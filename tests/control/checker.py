@@ -24,6 +24,10 @@ it has finished or is gone. A claim is a write of status.lastScheduleTime by a r
                 quiet minute
     unlike      a Job that isn't its CronJob's template at the claim, or not at the start
     twice       a request that was carried out twice
+    backward    a status.lastSuccessfulTime that a replica put back or took away
+    untrue      one that a replica wrote, and at which no Job of the CronJob succeeded
+    unsaid      one that is earlier, a quiet minute after, than the end of a Job that succeeded and
+                still stands or was deleted by a replica (batch/v1 only)
 
 Notes of the test bench say when it was calm: no replica was killed or stalled, no request was lost.
 """
@@ -114,6 +118,15 @@ def is_leaving(item):
 def has_finished(job):
     conditions = (job.get("status") or {}).get("conditions") or []
     return any(it["type"] in ("Complete", "Failed") and it["status"] == "True" for it in conditions)
+
+
+def success_of(job):
+    """The text of the time at which a Job succeeded; none of another."""
+    status = job.get("status") or {}
+    conditions = status.get("conditions") or []
+    if any(it["type"] == "Complete" and it["status"] == "True" for it in conditions):
+        return status.get("completionTime")
+    return None
 
 
 def same_version(one, other):
@@ -247,8 +260,20 @@ class Checker:
             cron.deadlines.append(after["spec"].get("startingDeadlineSeconds"))
         self.look(cron)
 
+    def see_success(self, entry, cron, old, new):
+        """A write of the time at which a Job succeeded last."""
+        was, now = old.get("lastSuccessfulTime"), new.get("lastSuccessfulTime")
+        if was == now or not is_replica(entry["who"]):
+            return
+        what = f"{key_of(cron.item)} {now}, and {was} before, by {entry['who']}"
+        if now is None or was is not None and second_of(now) < second_of(was):
+            self.tell("backward", what)
+        elif now not in {success_of(job.item) for job in cron.jobs.values()}:
+            self.tell("untrue", what)
+
     def see_status(self, entry, cron, before, after):
         old, new = before.get("status") or {}, after.get("status") or {}
+        self.see_success(entry, cron, old, new)
         last = new.get("lastScheduleTime")
         if last == old.get("lastScheduleTime"):
             return
@@ -383,6 +408,7 @@ class Checker:
                 self.find_unstarted(cron, claim)
             if cron.gone is None:
                 self.find_garbage(cron)
+                self.find_unsaid(cron)
             elif cron.gone + QUIET < self.now:
                 # (of a CronJob that was deleted with propagationPolicy Orphan: nobody's)
                 left = [it for it in cron.jobs.values() if it.by_replica and it.gone is None]
@@ -419,6 +445,20 @@ class Checker:
             deadlines = [it for it in cron.deadlines if it is not None]
             if not any(claim.time + it < left for it in deadlines):
                 self.tell("lost", f"{key} {text_of(claim.time)} by {job.deleted_by}")
+
+    def find_unsaid(self, cron):
+        """At rest the status says when a Job succeeded last, as far as a replica could see it."""
+        said = (cron.item.get("status") or {}).get("lastSuccessfulTime")
+        if cron.item.get("apiVersion") != "batch/v1" or is_leaving(cron.item):
+            return
+        for job in cron.jobs.values():
+            ended = success_of(job.item)
+            if ended is None or second_of(ended) + QUIET > self.now:
+                continue
+            if job.gone is not None and not is_replica(job.deleted_by or ""):
+                continue
+            if said is None or second_of(said) < second_of(ended):
+                self.tell("unsaid", f"{key_of(job.item)} {ended}, and the status has {said}")
 
     def find_garbage(self, cron):
         active = {it.get("uid") for it in (cron.item.get("status") or {}).get("active") or []}

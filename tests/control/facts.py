@@ -42,6 +42,8 @@ class Facts:
         self.deletions()
         self.lists()
         self.watches()
+        self.managers()
+        self.events()
         self.older()
         return self.wrong
 
@@ -124,7 +126,9 @@ class Facts:
         self.call("and the Job", 404, "GET", path, reason="NotFound")
         uid = self.call("get", 200, "GET", JOBS + "/h")["metadata"]["uid"]
         right = {"preconditions": {"uid": uid}, "propagationPolicy": "Background"}
-        self.call("by uid", 200, "DELETE", JOBS + "/h", right)
+        gone = self.call("by uid", 200, "DELETE", JOBS + "/h", right)
+        said = gone["status"], gone["details"]["uid"]
+        self.expect("a Status says which", said, ("Success", uid))
         self.call("is gone", 404, "GET", JOBS + "/h")
 
     def lists(self):
@@ -171,6 +175,34 @@ class Facts:
         self.server.watch(path, heard.append)
         self.expect("too old", heard[-1]["object"].get("code"), 410)
 
+    def managers(self):
+        path, theirs = CRONS + "/x", "kube-controller-manager/v1.29.0"
+        ended = {"status": {"lastSuccessfulTime": "2026-11-28T02:00:07Z"}}
+        now = self.call("a success", 200, "PATCH", path + "/status", ended, MERGE, theirs)
+        self.expect("stays", now["status"], LAST | ended["status"])
+        found = [
+            (it["manager"], list(it["fieldsV1"]), it.get("subresource"))
+            for it in now["metadata"]["managedFields"]
+        ]
+        wanted = ("kube-controller-manager", ["f:status"], "status")
+        self.expect("who wrote it last", found[-1], wanted)
+        again = self.call("the same", 200, "PATCH", path + "/status", ended, MERGE, "other/v1")
+        same = again["metadata"]["managedFields"] == now["metadata"]["managedFields"]
+        self.expect("what changes nothing has no manager", same, True)
+        odd = {"status": {"lastSuccessfulTime": "soon"}}
+        self.call("no time", 400, "PATCH", path + "/status", odd, MERGE)
+
+    def events(self):
+        path, about = "/api/v1/namespaces/n/events", {"kind": "CronJob", "name": "x"}
+        event = {"metadata": {"name": "x.1f"}, "involvedObject": about, "count": 1}
+        self.call("an Event", 201, "POST", path, event)
+        self.call("its name", 409, "POST", path, event, reason="AlreadyExists")
+        more = self.call("is counted", 200, "PATCH", path + "/x.1f", {"count": 2}, MERGE)
+        self.expect("its members", (more["count"], more["involvedObject"]), (2, about))
+        self.call("none such", 404, "PATCH", path + "/x.2", {"count": 2}, MERGE, reason="NotFound")
+        odd = event | {"metadata": {"name": "x_1"}}
+        self.call("an odd name", 422, "POST", path, odd, reason="Invalid")
+
     def older(self):
         self.server = Server(lambda: 1795831200.5, beta=True)
         self.call("batch/v1", 404, "GET", CRONS)
@@ -179,6 +211,9 @@ class Facts:
         held = {"metadata": {"name": "h"}, "spec": {"template": POD, "suspend": True}}
         job = self.call("suspend", 201, "POST", JOBS, held)
         self.expect("is dropped", "suspend" in job["spec"], False)
+        ended = {"status": LAST | {"lastSuccessfulTime": "2026-11-28T02:00:07Z"}}
+        now = self.call("a success", 200, "PATCH", beta + "/x/status", ended, MERGE)
+        self.expect("isn't known", now["status"], LAST)
         self.call("no policy", 200, "DELETE", beta + "/x")
         left = self.call("leaves it", 200, "GET", beta + "/x")["metadata"]
         self.expect("with a finalizer", left.get("finalizers"), ["orphan"])

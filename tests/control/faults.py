@@ -7,6 +7,7 @@ A Fate is drawn for each request:
     lost      it is carried out, and its answer is lost
     dropped   it isn't carried out, and nobody knows
     late      nobody hears of it again, and it is carried out seconds later
+    foreign   it isn't carried out: a proxy answers it itself, and knows of no API
 
 with the seconds before it is carried out, and those before the answer is there.
 """
@@ -34,7 +35,12 @@ INTERNAL = {
     "details": {},
     "code": 500,
 }
+# What proxies answer: with a status, and the JSON value of the body (a page of HTML is none).
+FOREIGN = ((404, {"error": "default backend - 404"}), (200, None), (404, None), (403, None))
 NO_ANSWERS = ("connection refused", "read timed out", "connection reset by peer")
+
+
+FATES = ("slow",) * 2 + ("slow answer",) + ("refused",) * 2 + ("lost",) * 2 + ("dropped", "late")
 
 
 class Plan:
@@ -48,9 +54,9 @@ class Plan:
         before, after = dice.uniform(0.0005, 0.02), dice.uniform(0.0005, 0.02)
         if dice.random() >= self.rate:
             return Fate("passes", before, after, None)
-        what = dice.choice(
-            ("slow", "slow", "slow answer", "refused", "refused", "lost", "lost", "dropped", "late")
-        )
+        what = dice.choice(FATES)
+        if dice.random() < 0.1:
+            what = "foreign"
         if what == "slow":
             return Fate("passes", self.seconds(), after, None)
         if what == "slow answer":
@@ -67,6 +73,11 @@ class Plan:
 
     def refusal(self, code):
         return TOO_MANY if code == 429 else INTERNAL
+
+    def foreign(self):
+        """What is told of a request that a proxy answers."""
+        status, body = self.dice.choice(FOREIGN)
+        return {"status": status, "body": body}
 
     def no_answer(self):
         return self.dice.choice(NO_ANSWERS)

@@ -8,6 +8,7 @@ import json
 import signal
 import sys
 import time
+from email.utils import formatdate
 
 import faults
 import jobs
@@ -94,7 +95,8 @@ class Face(asyncio.Protocol):
             return
         text = json.dumps(answer).encode()
         head = f"HTTP/1.1 {status} {WORDS.get(status, 'Other')}\r\n"
-        head += f"Content-Type: application/json\r\nContent-Length: {len(text)}\r\n"
+        head += f"Date: {self.date()}\r\nContent-Type: application/json\r\n"
+        head += f"Content-Length: {len(text)}\r\n"
         if status == 429:
             head += "Retry-After: 1\r\n"
         self.way.write(head.encode() + b"\r\n" + text)
@@ -102,11 +104,15 @@ class Face(asyncio.Protocol):
         if self.data:
             asyncio.get_running_loop().call_soon(self.next_request)
 
+    def date(self):
+        return formatdate(self.server.clock(), usegmt=True)
+
     # ---- watches
 
     def begin_watch(self, target, who, tag):
         loop = asyncio.get_running_loop()
-        head = "HTTP/1.1 200 OK\r\nContent-Type: application/json\r\n"
+        head = f"HTTP/1.1 200 OK\r\nDate: {self.date()}\r\n"
+        head += "Content-Type: application/json\r\n"
         self.way.write(f"{head}Transfer-Encoding: chunked\r\n\r\n".encode())
         try:
             watch = self.server.watch(target, self.tell, who, tag)

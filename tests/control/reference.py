@@ -22,6 +22,11 @@ With --break it does one thing otherwise, which the bench has to find out:
     forgets    leaves every second time out
     waits      waits where the name of its Job is taken by one that is being deleted, or by one of
                a stranger that says that it is of this CronJob and time
+    believes   takes what a proxy answers by itself for an answer of the API server
+    blind      starts a Job as its own server's version holds Jobs, whatever the Job says
+    follows    asks for references of status.active that name no Job
+    silent     leaves status.lastSuccessfulTime as it is
+    returns    writes there what the latest Jobs say, though a later one was there
 """
 import hashlib
 import json
@@ -35,8 +40,12 @@ MERGE, JSON_PATCH = "application/merge-patch+json", "application/json-patch+json
 TIME = "batch.kubernetes.io/cronjob-scheduled-timestamp"
 POLICY, TEMPLATE, HELD = "cronsim/policy", "cronsim/template", "cronsim/held"
 BREAKS = "late alone drops version name started adopts active garbage cache beside drags".split()
-BREAKS += ["forgets", "waits"]
+BREAKS += "forgets waits believes blind follows silent returns".split()
 HELP_AFTER, SOON, WORKERS = 3, 0.3, 8
+NAME = re.compile(r"[a-z0-9]([-a-z0-9]*[a-z0-9])?(\.[a-z0-9]([-a-z0-9]*[a-z0-9])?)*")
+# What the annotation of a held Job says: how it is held, or what earlier versions wrote.
+HOLDS = ("suspend", "parallelism", "true")
+USUAL = {"suspend": False, "parallelism": 1}
 
 
 def text_of(at):
@@ -109,7 +118,12 @@ def controller(job):
 
 
 def is_held(job):
-    return said(job, HELD) == "true"
+    return said(job, HELD) in HOLDS
+
+
+def names_a_job(ref):
+    name = ref.get("name") or ""
+    return len(name) <= 253 and NAME.fullmatch(name) is not None
 
 
 def is_finished(job):
@@ -119,6 +133,56 @@ def is_finished(job):
 
 def is_dead(job):
     return is_finished(job) or is_held(job) and "deletionTimestamp" in job["metadata"]
+
+
+def has_succeeded(job):
+    conditions = (job.get("status") or {}).get("conditions") or []
+    return any(it["type"] == "Complete" and it["status"] == "True" for it in conditions)
+
+
+# ---- what answers prove
+
+
+def meta_of(answer):
+    body = answer.get("body")
+    return (body.get("metadata") or {}) if isinstance(body, dict) else {}
+
+
+def status_of(answer):
+    """The Status that an answer is, or an empty one."""
+    body = answer.get("body")
+    return body if isinstance(body, dict) and body.get("kind") == "Status" else {}
+
+
+def is_missing(answer, resource, name):
+    """Whether a server says that the object isn't there."""
+    found, wanted = status_of(answer), {"name": name, "kind": resource}
+    about = {it: (found.get("details") or {}).get(it) for it in wanted}
+    return answer.get("status") == 404 and found.get("reason") == "NotFound" and about == wanted
+
+
+def is_found(answer, name):
+    return answer.get("status") == 200 and meta_of(answer).get("name") == name
+
+
+def is_list(answer):
+    body = answer.get("body")
+    return answer.get("status") == 200 and isinstance(body, dict) and "items" in body
+
+
+def is_refused(answer):
+    return answer.get("status") in (403, 404, 409, 422) and bool(status_of(answer))
+
+
+def is_written(answer, uid):
+    meta = meta_of(answer)
+    return answer.get("status") == 200 and meta.get("uid") == uid and "resourceVersion" in meta
+
+
+def is_deleted(answer, uid):
+    found = status_of(answer)
+    said_so = found.get("status") == "Success" and (found.get("details") or {}).get("uid") == uid
+    return answer.get("status") in (200, 202) and (said_so or meta_of(answer).get("uid") == uid)
 
 
 class Over(Exception):
@@ -206,7 +270,7 @@ class Machine:
 
     def begin(self):
         answer = yield "GET", "/version"
-        while answer.get("status") != 200:
+        while answer.get("status") != 200 or "minor" not in (answer.get("body") or {}):
             yield "sleep", 1
             answer = yield "GET", "/version"
         minor = int(answer["body"]["minor"].rstrip("+"))
@@ -216,13 +280,18 @@ class Machine:
 
     def follow(self, resource, api):
         while True:
-            found, path = {}, f"/apis/{api}/{resource}?limit=500"
+            found, path, limit = {}, f"/apis/{api}/{resource}?limit=", 500
             more, version = "", None
             while more is not None:
-                answer = yield "GET", path + more
-                if answer.get("status") != 200:
+                answer = yield "GET", f"{path}{limit}{more}"
+                if answer.get("status") == 413 or "error" in answer:
+                    limit = max(1, limit // 4)
+                    if "error" in answer:
+                        yield "sleep", 1
+                    continue
+                if not is_list(answer):
                     yield "sleep", 1
-                    found, more = {}, ""
+                    found, more, limit = {}, "", 500
                     continue
                 meta, version = (
                     answer["body"]["metadata"],
@@ -339,14 +408,18 @@ class Machine:
         """What of status.active runs, and what is held."""
         alive, held = [], None
         for ref in known["active"]:
-            key = (known["key"][0], ref["name"])
+            if self.broken != "follows" and not names_a_job(ref):
+                continue
+            key = (known["key"][0], ref.get("name") or "")
             job = self.mirrors["jobs"].get(key)
             is_settled = job and (is_dead(job) or not is_held(job) or self.broken == "cache")
             if not is_settled or job["metadata"]["uid"] != ref.get("uid"):
                 answer = yield "GET", self.path(key)
-                if answer.get("status") == 404:
+                if self.broken == "believes" and answer.get("status") == 404:
                     continue
-                if answer.get("status") != 200:
+                if is_missing(answer, "jobs", key[1]):
+                    continue
+                if not is_found(answer, key[1]):
                     raise Over(1)
                 job = answer["body"]
             if job["metadata"]["uid"] != ref.get("uid", job["metadata"]["uid"]) or is_dead(job):
@@ -377,7 +450,7 @@ class Machine:
         wanted = {name: value for name, value in wanted.items() if value}
         body = {"preconditions": wanted, "propagationPolicy": "Background"}
         answer = yield "DELETE", self.path(key), body
-        if answer.get("status") not in (200, 404, 409):
+        if not is_deleted(answer, uid) and not is_refused(answer):
             raise Over(1)
 
     def drop(self, key, refs):
@@ -395,7 +468,7 @@ class Machine:
         notes |= {TIME: text_of(at), POLICY: spec["concurrencyPolicy"], TEMPLATE: digest(template)}
         job = dict(template["spec"])
         if held:
-            notes[HELD] = "true"
+            notes[HELD] = self.holds_by
             if self.holds_by == "suspend":
                 job["suspend"] = True
             else:
@@ -423,12 +496,12 @@ class Machine:
             draft = self.draft(known, at, name, self.broken != "started")
             jobs = f"/apis/batch/v1/namespaces/{meta['namespace']}/jobs"
             answer = yield "POST", jobs, draft
-            if answer.get("status") == 201:
+            if answer.get("status") == 201 and meta_of(answer).get("name") == name:
                 return answer["body"]
-            if (answer.get("body") or {}).get("reason") != "AlreadyExists":
+            if status_of(answer).get("reason") != "AlreadyExists":
                 raise Over(1)
             answer = yield "GET", self.path((meta["namespace"], name))
-            if answer.get("status") != 200:
+            if not is_found(answer, name):
                 raise Over(SOON)
             job = answer["body"]
             if "deletionTimestamp" in job["metadata"]:
@@ -449,8 +522,8 @@ class Machine:
         """Of a Job of the time that isn't held: the time was claimed, and what was read is old; or
         nothing has changed, and it is a stranger's."""
         answer = yield "GET", self.path(known["key"], "cronjobs", self.api)
-        meta = (answer.get("body") or {}).get("metadata") or {}
-        if meta.get("resourceVersion") != known["version"] or self.broken == "waits":
+        version = meta_of(answer).get("resourceVersion")
+        if version != known["version"] or self.broken == "waits":
             raise Over(1)
 
     def claim(self, known, alive, job):
@@ -462,11 +535,13 @@ class Machine:
         if self.broken == "version":
             del wanted["resourceVersion"]
         status = {"lastScheduleTime": said(job, TIME), "active": active}
+        status |= self.success(known)
         path = self.path(known["key"], "cronjobs", self.api) + "/status"
         answer = yield "PATCH", path, {"metadata": wanted, "status": status}, MERGE
-        if answer.get("status") != 200:
-            raise Over(SOON if "status" in answer else 1)
-        known["version"] = answer["body"]["metadata"]["resourceVersion"]
+        if not is_written(answer, known["uid"]):
+            raise Over(SOON if is_refused(answer) else 1)
+        known["version"] = meta_of(answer)["resourceVersion"]
+        known["cron"] = known["cron"] | {"status": answer["body"].get("status") or {}}
         known["last"], known["active"] = second_of(said(job, TIME)), active
         known["passed by"] = []
 
@@ -476,16 +551,18 @@ class Machine:
         meta, wanted = job["metadata"], known["cron"]["spec"]["jobTemplate"]["spec"]
         mark = "/metadata/annotations/cronsim~1held"
         tests = [{"op": "test", "path": "/metadata/uid", "value": meta["uid"]}]
-        tests += [{"op": "test", "path": mark, "value": "true"}]
+        held_by = said(job, HELD)
+        tests += [{"op": "test", "path": mark, "value": held_by}]
         if self.broken == "name":
             tests = []
-        usual = {"suspend": False, "parallelism": 1}[self.holds_by]
-        value = wanted.get(self.holds_by, usual)
         body = tests + [{"op": "remove", "path": mark}]
-        body.append({"op": "add", "path": f"/spec/{self.holds_by}", "value": value})
+        held_by = self.holds_by if self.broken == "blind" else held_by
+        for field in USUAL if held_by == "true" else (held_by,):
+            value = wanted.get(field, USUAL[field])
+            body.append({"op": "add", "path": f"/spec/{field}", "value": value})
         answer = yield "PATCH", self.path(key_of(job)), body, JSON_PATCH
-        if answer.get("status") != 200:
-            raise Over(SOON if answer.get("status") in (404, 409, 422) else 1)
+        if not is_written(answer, meta["uid"]):
+            raise Over(SOON if is_refused(answer) else 1)
         self.starts += 1
         self.tell(f"start {'/'.join(key_of(job))} {said(job, TIME)}")
 
@@ -503,17 +580,33 @@ class Machine:
 
     # ---- the end of a sync
 
+    def success(self, known):
+        """What a status has to say anew of the last Job that succeeded."""
+        if self.api != "batch/v1" or self.broken == "silent":
+            return {}
+        own = [
+            it for it in self.mirrors["jobs"].values() if controller(it).get("uid") == known["uid"]
+        ]
+        ends = [it["status"].get("completionTime") for it in own if has_succeeded(it)]
+        latest = max(filter(None, ends), default=None)
+        was = (known["cron"].get("status") or {}).get("lastSuccessfulTime")
+        if latest is None or was == latest:
+            return {}
+        if was is not None and second_of(latest) <= second_of(was) and self.broken != "returns":
+            return {}
+        return {"lastSuccessfulTime": latest}
+
     def tidy(self, known, alive):
         """Writes the status without the dead, and removes garbage and old Jobs."""
         spec, key = known["cron"]["spec"], known["key"]
-        names = {it.get("uid") for it in known["active"]}
-        if alive != known["active"]:
+        names, success = {it.get("uid") for it in known["active"]}, self.success(known)
+        if alive != known["active"] or success:
             wanted = {"uid": known["uid"], "resourceVersion": known["version"]}
-            body = {"metadata": wanted, "status": {"active": alive or None}}
+            body = {"metadata": wanted, "status": {"active": alive or None} | success}
             path = self.path(key, "cronjobs", self.api) + "/status"
             answer = yield "PATCH", path, body, MERGE
-            if answer.get("status") != 200:
-                raise Over(SOON if "status" in answer else 1)
+            if not is_written(answer, known["uid"]):
+                raise Over(SOON if is_refused(answer) else 1)
         own = [
             it for it in self.mirrors["jobs"].values() if controller(it).get("uid") == known["uid"]
         ]

@@ -9,8 +9,10 @@ TIME = re.compile(r"\d{4}-\d\d-\d\dT\d\d:\d\d:\d\d(?:\.\d+)?(?:Z|[+-]\d\d:\d\d)"
 KINDS = {"cronjobs": "CronJob", "jobs": "Job"}
 MOST_LETTERS = {"cronjobs": 52, "jobs": 63}
 POLICIES = ("Allow", "Forbid", "Replace")
-# The first minor version that keeps spec.suspend of a Job.
+# The first minor versions that keep spec.suspend of a Job, and status.lastSuccessfulTime of a
+# CronJob.
 SUSPENDS_FROM = 22
+TELLS_SUCCESS_FROM = 21
 POD = {
     "dnsPolicy": "ClusterFirst",
     "schedulerName": "default-scheduler",
@@ -52,8 +54,13 @@ def no_resource():
     return Refusal(404, "NotFound", "the server could not find the requested resource")
 
 
-def taken(resource, name):
-    words = f'{resource}.batch "{name}" already exists'
+def no_event(name):
+    words = f'events "{name}" not found'
+    return Refusal(404, "NotFound", words, {"name": name, "kind": "events"})
+
+
+def taken(resource, name, group=".batch"):
+    words = f'{resource}{group} "{name}" already exists'
     return Refusal(409, "AlreadyExists", words, details(resource, name))
 
 
@@ -129,6 +136,20 @@ def with_own_references(meta):
     return meta | {"ownerReferences": found} if found else meta
 
 
+def with_manager(meta, group, who, sub, now):
+    """metadata with the last write of a manager, who is named as clients name themselves; only
+    whether it was one of the status is said of its fields."""
+    fields = {"f:status" if sub else "f:spec": {}}
+    entry = {"manager": who.partition("/")[0] or "unknown", "operation": "Update"}
+    entry |= {"apiVersion": group, "time": now, "fieldsType": "FieldsV1", "fieldsV1": fields}
+    entry |= {"subresource": sub} if sub else {}
+    named = entry["manager"], fields
+    others = [
+        it for it in meta.get("managedFields") or [] if (it["manager"], it["fieldsV1"]) != named
+    ]
+    return meta | {"managedFields": [*others, entry]}
+
+
 def with_pod_labels(job):
     """A Job that has no labels has those of its Pods."""
     labels = job["spec"]["template"]["metadata"].get("labels")
@@ -197,9 +218,10 @@ def check_cron(name, cron):
     ):
         check_count("cronjobs", name, spec, field)
     check_pod("cronjobs", name, spec["jobTemplate"]["spec"]["template"])
-    last = (cron.get("status") or {}).get("lastScheduleTime")
-    if last is not None and not TIME.fullmatch(str(last)):
-        raise bad_request("status.lastScheduleTime: a time is expected")
+    for field in ("lastScheduleTime", "lastSuccessfulTime"):
+        said = (cron.get("status") or {}).get(field)
+        if said is not None and not TIME.fullmatch(str(said)):
+            raise bad_request(f"status.{field}: a time is expected")
 
 
 def check_job(name, job):

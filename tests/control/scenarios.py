@@ -79,7 +79,16 @@ class Scenario:
         self.replicas = 3
         if self.is_duel:
             self.bursts, self.names, self.replicas = 0.9, self.names[:1], dice.choice((1, 1, 2, 3))
+        # Answers have the server's date, or come from a transport that leaves it out. They may be
+        # no larger than this (0: as large as they are). Replicas may ask servers of two versions.
+        self.tells_date = number % 5 != 1
+        self.most_bytes = 12000 if number % 6 == 2 else 0
+        self.is_mixed = not self.beta and number % 4 == 3
         self.server = self.later = None
+
+    def minor_for(self, who):
+        """The version that a replica is told: while servers are upgraded, now this, now that."""
+        return (22, 24)[sum(who.encode()) % 2] if self.is_mixed else self.minor
 
     def path(self, resource, key, group=None):
         group = group or self.server.groups[resource]
@@ -166,20 +175,23 @@ class Scenario:
 
     def delete_name(self, key):
         """Deletes the Job of a time that is claimed just now, or was a little earlier."""
+        name = self.last_active(key)
+        if name:
+            path = f"{self.path('jobs', key)}/{name}"
+            self.ask("DELETE", path, {"propagationPolicy": "Background"})
+
+    def last_active(self, key):
+        """The last name in `status.active`."""
         cron = self.server.objects["cronjobs"].get(key)
         active = (cron or {}).get("status", {}).get("active") or []
-        if active:
-            path = f"{self.path('jobs', key)}/{active[-1]['name']}"
-            self.ask("DELETE", path, {"propagationPolicy": "Background"})
+        return active[-1].get("name") if active else None
 
     def replace_name(self, key):
         """Deletes that Job and creates it anew as it was, as `kubectl replace --force` does."""
-        cron = self.server.objects["cronjobs"].get(key)
-        active = (cron or {}).get("status", {}).get("active") or []
-        if not active:
+        name, path = self.last_active(key), self.path("jobs", key)
+        if not name:
             return
-        path = self.path("jobs", key)
-        status, job = self.ask("GET", f"{path}/{active[-1]['name']}")
+        status, job = self.ask("GET", f"{path}/{name}")
         if status == 200:
             meta = {it: job["metadata"].get(it) for it in ("name", "labels", "annotations")}
             meta["ownerReferences"] = job["metadata"].get("ownerReferences")
@@ -218,6 +230,18 @@ class Scenario:
         free = {"metadata": {"finalizers": None}}
         self.later(self.dice.uniform(30, 300), self.ask, "PATCH", f"{path}/{name}", free, MERGE)
 
+    def break_active(self, key):
+        """Puts references of no Job into `status.active`, which whoever may write there can."""
+        cron = self.server.objects["cronjobs"].get(key)
+        if cron is None:
+            return
+        names = self.dice.choice((["../../secrets/x"], ["A"], ["", "x/y"], [None]))
+        refs = [{"kind": "Job", "name": it} if it is not None else {"kind": "Job"} for it in names]
+        active = (cron["status"].get("active") or []) + refs
+        meta = {it: cron["metadata"][it] for it in ("uid", "resourceVersion")}
+        body = {"metadata": meta, "status": {"active": active}}
+        self.ask("PATCH", f"{self.path('cronjobs', key)}/{key[1]}/status", body, MERGE)
+
     def release_one(self, key):
         """Starts a held Job of a stranger by hand, as anybody may."""
         for found, job in sorted(self.server.objects["jobs"].items()):
@@ -243,6 +267,7 @@ EDITS = (
     Scenario.replace_name,
     Scenario.create_stranger,
     Scenario.pin_name,
+    Scenario.break_active,
     Scenario.release_one,
 )
 

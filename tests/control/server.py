@@ -2,10 +2,10 @@
 """A small API server in memory, for tests: CronJobs and Jobs of the group batch, Events, /version.
 
 get, list (limit, continue, labelSelector), watch (resourceVersion, bookmarks, 410), create, update,
-merge and JSON patch, /status, delete (preconditions, propagationPolicy, finalizers), with versions
-and refusals as a real server has them. A log keeps every request that was carried out, with its
-time, its sender, and the object before and after. With it run a Job controller and a garbage
-collector (jobs.py), and faults by a seeded plan (faults.py).
+merge and JSON patch, /status, delete (preconditions, propagationPolicy, finalizers), with versions,
+managers (by the sender, up to a slash) and refusals as a real server has them. A log keeps every
+request that was carried out, with its time, its sender, and the object before and after. With it
+run a Job controller and a garbage collector (jobs.py), and faults by a seeded plan (faults.py).
 
 usage: tests/control/server.py [--port N] [--beta] [--no-loops] [--minor N] [--faults SEED]
                                   [--log FILE]
@@ -37,6 +37,8 @@ MERGE, JSON_PATCH = "application/merge-patch+json", "application/json-patch+json
 STRATEGIC = "application/strategic-merge-patch+json"
 # As many pages of lists as can be gone on with.
 PAGES = 100
+# How Events are written: the methods, and whether the path names one.
+EVENT_WRITES = (("POST", False), ("PATCH", True))
 
 Route = namedtuple("Route", "group version resource namespace name sub query")
 # What a write changed: `old` of none is a creation, `new` of none a deletion, whose last state
@@ -133,17 +135,17 @@ class Server:
         self.objects = {"cronjobs": {}, "jobs": {}}
         self.namespaces = {"default"}
         self.changes, self.watches, self.listeners = [], [], []
-        self.told, self.log, self.pages = [], [], {}
+        self.events, self.log, self.pages = {}, [], {}
         # A list from the cache (resourceVersion=0) is so many seconds old, and a page of a list has
         # at most so many items, whatever limit is asked for (0: as many as are asked for).
         self.lag, self.most_items = 0, 0
-        self.touched = None
+        self.touched, self.sender = None, ""
 
     # ---- requests
 
     def call(self, method, target, body=None, kind="application/json", who="", tag=None):
         """Carries out a request, and answers its status and body."""
-        route, self.touched = route_of(target), None
+        route, self.touched, self.sender = route_of(target), None, who
         try:
             status, answer = self.served(method, route, body, kind)
         except Refusal as refusal:
@@ -165,7 +167,7 @@ class Server:
                 raise rules.no_resource()
             return self.batch(method, route, body, kind)
         if route.group == "" and route.resource == "events":
-            return self.core_events(method, route, body)
+            return self.core_events(method, route, body, kind)
         if route.group == "" and route.resource == "namespaces":
             return self.core_namespaces(method, route, body)
         if method == "GET":
@@ -204,7 +206,7 @@ class Server:
         if token:
             if token not in self.pages:
                 raise rules.expired("The provided continue parameter is too old")
-            version, items = self.pages.pop(token)
+            version, items = self.pages[token]
         else:
             version, objects = self.version, self.objects[route.resource]
             if route.query.get("resourceVersion") == "0" and self.lag:
@@ -341,7 +343,7 @@ class Server:
         meta = rules.with_own_references(meta)
         rules.check_meta(resource, name, meta)
         kind, group = KINDS[resource], f"batch/{route.version}"
-        item = {"kind": kind, "apiVersion": group, "metadata": meta}
+        item = {"kind": kind, "apiVersion": group, "metadata": self.managed(meta, group, None)}
         item |= {"spec": self.spec_of(resource, body.get("spec") or {}), "status": {}}
         if resource == "jobs":
             rules.check_job(name, item)
@@ -358,6 +360,17 @@ class Server:
 
     def spec_of(self, resource, spec):
         return rules.job_spec(spec, self.minor) if resource == "jobs" else rules.cron_spec(spec)
+
+    def status_of(self, resource, status):
+        """A status as this version keeps it."""
+        kept = {name: value for name, value in status.items() if value}
+        if resource == "cronjobs" and self.minor < rules.TELLS_SUCCESS_FROM:
+            kept.pop("lastSuccessfulTime", None)
+        return kept
+
+    def managed(self, meta, group, sub):
+        """metadata that says who wrote it now."""
+        return rules.with_manager(meta, group, self.sender, sub, stamp(self.clock()))
 
     def updated(self, route, body):
         self.check_kind(route, body)
@@ -410,6 +423,7 @@ class Server:
             "creationTimestamp",
             "deletionTimestamp",
             "deletionGracePeriodSeconds",
+            "managedFields",
         ):
             meta.pop(field, None)
             if field in was:
@@ -419,7 +433,7 @@ class Server:
                 meta.pop(field, None)
         item = {"kind": old["kind"], "apiVersion": old["apiVersion"], "metadata": meta}
         if route.sub == "status":
-            status = {it: value for it, value in (new.get("status") or {}).items() if value}
+            status = self.status_of(resource, new.get("status") or {})
             item |= {"spec": old["spec"], "status": status}
         else:
             spec = self.spec_of(resource, new.get("spec") or {})
@@ -438,6 +452,7 @@ class Server:
         if item == old:
             self.touched = (old, old)
             return old
+        item["metadata"] = self.managed(meta, item["apiVersion"], route.sub)
         return self.put(resource, key, old, item)
 
     def deleted(self, route, body):
@@ -486,14 +501,19 @@ class Server:
 
     # ---- what else there is
 
-    def core_events(self, method, route, body):
+    def core_events(self, method, route, body, kind):
         if method == "GET":
-            items = [it for it in self.told if route.namespace in (None, it[0])]
-            meta = {"resourceVersion": str(self.version)}
-            found = [item for _, item in items]
-            return 200, {"kind": "EventList", "apiVersion": "v1", "metadata": meta, "items": found}
-        if method != "POST" or not route.namespace:
+            return 200, self.events_of(route)
+        if not route.namespace or (method, bool(route.name)) not in EVENT_WRITES:
             raise Refusal(405, "MethodNotAllowed", "the server does not allow this method")
+        old = self.events.get((route.namespace, route.name))
+        if method == "PATCH":
+            if old is None:
+                raise rules.no_event(route.name)
+            if kind not in (MERGE, STRATEGIC) or not isinstance(body, dict):
+                raise Refusal(415, "UnsupportedMediaType", f"{kind} is no type of a patch")
+            new = patches.merged(old, body)
+            return 200, self.put_event(old, new, dict(new["metadata"]))
         if not isinstance(body, dict) or not isinstance(body.get("involvedObject"), dict):
             raise rules.bad_request("an Event is expected")
         meta = dict(body.get("metadata") or {})
@@ -501,18 +521,31 @@ class Server:
             raise rules.bad_request("the namespace of the object doesn't match the request's")
         if not meta.get("name") and not meta.get("generateName"):
             raise Refusal(422, "Invalid", "Event is invalid: metadata.name: Required value")
-        self.version += 1
         meta.setdefault("name", f"{meta.get('generateName')}{self.dice.getrandbits(40):x}")
+        if not rules.NAME.fullmatch(meta["name"]):
+            raise Refusal(422, "Invalid", "Event is invalid: metadata.name: Invalid value")
+        if (route.namespace, meta["name"]) in self.events:
+            raise rules.taken("events", meta["name"], "")
         meta |= {"namespace": route.namespace, "uid": self.new_uid()}
-        meta |= {"resourceVersion": str(self.version), "creationTimestamp": stamp(self.clock())}
-        item = body | {"kind": "Event", "apiVersion": "v1", "metadata": meta}
+        meta |= {"creationTimestamp": stamp(self.clock())}
+        return 201, self.put_event(None, body, meta)
+
+    def put_event(self, old, new, meta):
+        """Stores an Event."""
+        self.version += 1
+        meta |= {"resourceVersion": str(self.version)}
+        item = new | {"kind": "Event", "apiVersion": "v1", "metadata": meta}
         # (an Event is a version too, which the window of changes has a place for)
-        self.changes.append(
-            Change(self.version, self.clock(), "events", (route.namespace, ""), None, None, None)
-        )
-        self.told.append((route.namespace, item))
-        self.touched = (None, item)
-        return 201, item
+        key = meta["namespace"], meta["name"]
+        self.changes.append(Change(self.version, self.clock(), "events", key, None, None, None))
+        self.events[key] = item
+        self.touched = (old, item)
+        return item
+
+    def events_of(self, route):
+        found = [it for key, it in self.events.items() if route.namespace in (None, key[0])]
+        meta = {"resourceVersion": str(self.version)}
+        return {"kind": "EventList", "apiVersion": "v1", "metadata": meta, "items": found}
 
     def core_namespaces(self, method, route, body):
         if method == "POST":
