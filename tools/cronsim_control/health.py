@@ -39,7 +39,7 @@ METRICS = (
         "clockOffset",
         "cronsim_clock_offset_seconds",
         "gauge",
-        "How far the API server's clock is ahead of this machine's",
+        "How far this machine's clock is ahead of the API server's",
     ),
 )
 
