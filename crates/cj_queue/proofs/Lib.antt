@@ -2,6 +2,7 @@ pub mod LawsLemmas
 pub mod TimesLemmas
 pub mod Sets
 pub mod LineLemmas
+pub mod Stacks
 pub mod RowLemmas
 pub mod StageLemmas
 pub mod Ready

@@ -1,5 +1,6 @@
 -- Lines in which no key stands twice.
 use Rattle.std.proofs.Common.{◌≡◌, Bool, true, false, cond, not, ◌&&◌, ◌||◌, List, [], ◌∷◌, ◌++◌, refl, sym, ap, ◌∙◌}
+use Rattle.std.specs.Bool.{OnTrue, OnFalse}
 use Rattle.std.proofs.lemmas.List.Folds.{list_any-append}
 use Rattle.cj_types.specs.Keys.{Place}
 use Rattle.cj_queue.specs.Parts.{key_eq, stands_in, are_distinct}
@@ -71,6 +72,18 @@ true_or_false false p q = absurd (cc p)
 pub refuted : (a : Bool) → (a ≡ true → ⊥) → a ≡ false
 refuted true f = absurd (f refl)
 refuted false f = refl
+
+-- ---- clauses by a test
+
+-- What holds where a test does, where it does.
+pub on_true : (b : Bool) (P : Type 0) → b ≡ true → OnTrue b P → P
+on_true true P e h = h
+on_true false P e h = absurd (cc e)
+
+-- What holds where a test fails, where it fails.
+pub on_false : (b : Bool) (P : Type 0) → b ≡ false → OnFalse b P → P
+on_false true P e h = absurd (cc e)
+on_false false P e h = h
 
 -- ---- a key put last
 

@@ -17,12 +17,12 @@ abbrev pub Sets : List Place → List Place → Place → Bool → Type 0
 Sets old new k b = (q : Place) → stands_in new q ≡ cond (key_eq k q) b (stands_in old q)
 
 -- A choice by a test that fails is its second part.
-off : {A : Type 0} (b : Bool) (x y : A) → b ≡ false → cond b x y ≡ y
+pub off : {A : Type 0} (b : Bool) (x y : A) → b ≡ false → cond b x y ≡ y
 off true x y e = absurd (cc e)
 off false x y e = refl
 
 -- A choice by a test that holds is its first part.
-on : {A : Type 0} (b : Bool) (x y : A) → b ≡ true → cond b x y ≡ x
+pub on : {A : Type 0} (b : Bool) (x y : A) → b ≡ true → cond b x y ≡ x
 on true x y e = refl
 on false x y e = absurd (cc e)
 

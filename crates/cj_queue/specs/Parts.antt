@@ -1,14 +1,14 @@
 -- The parts of the queue in contracts, and the invariants of their types.
-use Rattle.std.specs.Prelude.{◌≡◌, ℕ, Bool, true, false, not, ◌&&◌, ◌==◌, cond, List, [], ◌∷◌, ◌++◌, map, Option, Some, None, refl}
+use Rattle.std.specs.Prelude.{◌≡◌, ℕ, Bool, true, false, not, ◌&&◌, ◌==◌, cond, if◌then◌else◌, List, [], ◌∷◌, ◌++◌, map, reverse, Option, Some, None, refl}
 use Rattle.std.specs.Ordering.{eq_of_both, on}
 use Rattle.std.specs.Cmp.Lexicographic.{pointwise}
 use Rattle.std.specs.List.{list_any, filter}
 use Rattle.std.specs.Map.{lookup, keys_of as keys_with}
 use Rattle.std.specs.FinMap.{FinMap, from_entries, insert, get as get_count}
-use Rattle.std.specs.Coded.{Coded, code_by, coded×, coded_ℕ}
-use Rattle.cj_types.specs.Keys.{Place, place_cmp}
+use Rattle.std.specs.Coded.{Coded, code_by, coded×, coded_ℕ, coded_list}
+use Rattle.cj_types.specs.Keys.{Place, place_cmp, coded_place}
 use Rattle.cj_queue.specs.declared.stage.Stage.{Stage}
-use Rattle.cj_queue.specs.declared.stage.Stage.TheVariants.{Lined, Held, Again}
+use Rattle.cj_queue.specs.declared.stage.Stage.TheVariants.{Held, Again}
 use Rattle.cj_queue.specs.Queue.{Keys, Row, row_code}
 
 -- whether two keys have the same bytes, as a key's `==` says
@@ -27,70 +27,62 @@ are_distinct (k ∷ ks) = not (stands_in ks k) && are_distinct ks
 abbrev pub keys_of : List Place → Keys
 keys_of ks = from_entries (map (λ k. (k, tt)) ks)
 
--- ---- stages
+-- ---- the line
 
--- the keys of the line and those that are being worked on, each with its stage
-abbrev pub Stages : Type 0
-Stages = List (Place × Stage)
+-- the keys of the two sets that hold a line: the older ones from the last to the first, then the
+-- others
+abbrev pub line_of : List Place → List Place → List Place
+line_of front back = reverse front ++ back
 
--- the key's stage, if it has one
-abbrev pub stage_of : Stages → Place → Option Stage
-stage_of stages k = lookup (key_eq k) stages
+-- the line after an add of the key: it goes last, unless it is in the line
+-- rule: queue-add
+abbrev pub with_last : List Place → Place → List Place
+with_last line k = if stands_in line k then line else line ++ k ∷ []
 
--- whether a key of the stage is in the line
-abbrev pub is_lined : Option Stage → Bool
-is_lined None = false
-is_lined (Some Lined) = true
-is_lined (Some Held) = false
-is_lined (Some Again) = false
+-- `Line` in contracts: the keys, and for how many adds there is room
+pub record Line : Type 0 where
+  pub keys : List Place
+  pub room : ℕ
 
--- whether it is being worked on
-abbrev pub is_held : Option Stage → Bool
-is_held None = false
-is_held (Some Lined) = false
-is_held (Some Held) = true
-is_held (Some Again) = true
+abbrev pub line_code : Coded Line
+line_code =
+    code_by (List Place × ℕ) (coded× (coded_list coded_place) coded_ℕ) (λ l. (l.keys, l.room))
+    (λ p. record { keys = p.0; room = p.1 }) (λ _. refl)
 
--- whether it was added again while it was worked on
+-- ---- the keys that are being worked on
+
+-- these keys, each with its stage
+abbrev pub Busy : Type 0
+Busy = List (Place × Stage)
+
+-- the key's stage, if it is being worked on
+abbrev pub stage_of : Busy → Place → Option Stage
+stage_of busy k = lookup (key_eq k) busy
+
+-- whether a key of the stage was added again while it was worked on
 abbrev pub is_again : Option Stage → Bool
 is_again None = false
-is_again (Some Lined) = false
 is_again (Some Held) = false
 is_again (Some Again) = true
 
--- the stage after an add
--- rules: queue-add, add-while-held
-abbrev pub after_add : Option Stage → Stage
-after_add None = Lined
-after_add (Some Lined) = Lined
-after_add (Some Held) = Again
-after_add (Some Again) = Again
-
--- the stage after the end of the work
--- rules: queue-done, add-while-held
-abbrev pub after_end : Option Stage → Option Stage
-after_end None = None
-after_end (Some Lined) = None
-after_end (Some Held) = None
-after_end (Some Again) = Some Lined
-
--- the keys whose stage passes the test
-abbrev pub keys_at : (Option Stage → Bool) → Stages → List Place
-keys_at test stages = filter (λ k. test (stage_of stages k)) (keys_with stages)
+-- the keys that were added again while they were worked on
+-- rule: add-while-held
+abbrev pub added_again : Busy → List Place
+added_again busy = filter (λ k. is_again (stage_of busy k)) (keys_with busy)
 
 -- new has the given stage at the key, and is else as old
-abbrev pub HasStage : Stages → Stages → Place → Option Stage → Type 0
+abbrev pub HasStage : Busy → Busy → Place → Option Stage → Type 0
 HasStage old new k s = (q : Place) → stage_of new q ≡ cond (key_eq k q) s (stage_of old q)
 
--- a key is in the line just where its stage says so, and it is there once
+-- no key of the line is being worked on, and none is in the line more than once
 -- rule: queue-line
-pub record AreStaged (line : List Place) (stages : Stages) : Type 0 where
-  pub same : (k : Place) → is_lined (stage_of stages k) ≡ stands_in line k
+pub record IsFree (line : List Place) (busy : Busy) : Type 0 where
+  pub free : (k : Place) → stands_in line k ≡ true → stage_of busy k ≡ None
   pub once : are_distinct line ≡ true
 
--- the row of a line, and of its keys and those that are being worked on with their stages
-abbrev pub row_of : List Place → Stages → Row
-row_of line stages = record { line = line; dirty = keys_of (line ++ keys_at is_again stages); processing = keys_of (keys_at is_held stages) }
+-- the row of a line and of the keys that are being worked on
+abbrev pub row_of : List Place → Busy → Row
+row_of line busy = record { line = line; dirty = keys_of (line ++ added_again busy); processing = keys_of (keys_with busy) }
 
 -- `Work` in contracts: the row, and for how many adds there is room
 pub record Work : Type 0 where

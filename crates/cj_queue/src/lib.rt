@@ -10,6 +10,7 @@ mod backoff;
 mod copies;
 mod failures;
 mod laws;
+mod line;
 mod queue;
 mod secret;
 mod stage;

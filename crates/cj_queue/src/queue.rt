@@ -5,7 +5,6 @@ ghost use Rattle.cj_queue.specs.Queue.{new_queue, row_adds, row_end, added, take
 ghost use Rattle.cj_queue.specs.Times.{ready, without, waits_for};
 
 use crate::backoff::{delay_after, one_more};
-use crate::copies::two_copies;
 use crate::failures::Failures;
 use crate::secret::Secret;
 use crate::waits::Waits;
@@ -96,6 +95,13 @@ impl Queue {
         self.work.add_key(self.alloc, key)
     }
 
+    /// How many keys are in the line (client-go's Len).
+    pub fn len(&self) -> usize
+        ensures { result ≡ length self.now.row.line }
+    {
+        self.work.len()
+    }
+
     /// The first key of the line, which the next `take` gives.
     pub fn front(&self) -> Option<&Key>
         ensures { option_copied result ≡ first self.now.row.line }
@@ -111,7 +117,7 @@ impl Queue {
         ensures err { OnErr result (self.new ≡ self.old) }
         ensures memory { IfErr result (λ e. e ≡ OutOfMemory) }
     {
-        Ok(self.work.take())
+        self.work.take(self.alloc)
     }
 
     /// Whether the key was taken, and the work on it isn't done.
@@ -129,8 +135,7 @@ impl Queue {
         ensures memory { IfErr result (λ e. e ≡ OutOfMemory) }
     {
         self.work.reserve(1)?;
-        let copy = key.try_copy(self.alloc)?;
-        self.work.end(copy);
+        self.work.end(key);
         Ok(())
     }
 
@@ -218,23 +223,22 @@ impl Queue {
         ensures memory { IfErr result (λ e. e ≡ OutOfMemory) }
     {
         self.work.reserve(2)?;
-        let ended = key.try_copy(self.alloc)?;
         let Some(next) = at_ms else {
-            end_well(&mut self.work, &mut self.failures, ended);
+            end_well(&mut self.work, &mut self.failures, key);
             return Ok(());
         };
         if self.shut {
-            end_well(&mut self.work, &mut self.failures, ended);
+            end_well(&mut self.work, &mut self.failures, key);
             return Ok(());
         }
         if next > self.tick {
             self.waits.keep(self.alloc, key, next)?;
-            end_well(&mut self.work, &mut self.failures, ended);
+            end_well(&mut self.work, &mut self.failures, key);
             return Ok(());
         }
-        let (again, copy) = two_copies(self.alloc, key)?;
-        end_well(&mut self.work, &mut self.failures, ended);
-        self.work.add(again, copy);
+        let copy = key.try_copy(self.alloc)?;
+        end_well(&mut self.work, &mut self.failures, key);
+        self.work.add(copy);
         Ok(())
     }
 
@@ -248,21 +252,20 @@ impl Queue {
         let count = self.failures.get(key);
         let at = now_ms.get() + delay_after(count);
         self.work.reserve(2)?;
-        let ended = key.try_copy(self.alloc)?;
         if self.shut {
             self.failures.put(self.alloc, key, one_more(count))?;
-            self.work.end(ended);
+            self.work.end(key);
             return Ok(());
         }
         if at > self.tick {
             put_off(&mut self.waits, &mut self.failures, self.alloc, key, at)?;
-            self.work.end(ended);
+            self.work.end(key);
             return Ok(());
         }
-        let (again, copy) = two_copies(self.alloc, key)?;
+        let copy = key.try_copy(self.alloc)?;
         self.failures.put(self.alloc, key, one_more(count))?;
-        self.work.end(ended);
-        self.work.add(again, copy);
+        self.work.end(key);
+        self.work.add(copy);
         Ok(())
     }
 }
@@ -276,22 +279,22 @@ fn add_ready(waits: &mut Waits, work: &mut Work, now: u64, count: usize)
     ensures rows { work.new.row ≡ row_adds work.old.row (ready waits.old now) }
 {
     for _ in 0..count {
-        let Some((key, copy)) = waits.take_ready(now) else {
+        let Some((key, _)) = waits.take_ready(now) else {
             return;
         };
-        work.add(key, copy);
+        work.add(key);
     }
 }
 
 // Ends the work on the key, and forgets its failures.
-fn end_well(work: &mut Work, failures: &mut Failures, key: Key)
+fn end_well(work: &mut Work, failures: &mut Failures, key: &Key)
     requires room { 0 < work.old.room }
-    requires held { IsTrue (has work.old.row.processing key) }
-    ensures row { work.new.row ≡ row_end work.old.row key }
+    requires held { IsTrue (has work.old.row.processing key.now) }
+    ensures row { work.new.row ≡ row_end work.old.row key.now }
     ensures room { work.old.room ≤ work.new.room + 1 }
-    ensures counts { failures.new ≡ map.remove failures.old key }
+    ensures counts { failures.new ≡ map.remove failures.old key.now }
 {
-    failures.remove(&key);
+    failures.remove(key);
     work.end(key);
 }
 

@@ -1,84 +1,54 @@
-ghost use Rattle.std.specs.Prelude.{◌≡◌, ◌≤◌, ◌<◌, ◌+◌, not, is_some, IfErr, IfOk, OnOk, OnErr, IsOk, true, Some};
-ghost use Rattle.std.specs.HashMap.{spare};
-ghost use Rattle.cj_base.specs.declared.refusal.Refusal.TheVariants.{OutOfMemory};
-ghost use Rattle.cj_queue.specs.Parts.{stage_of, is_held, is_again, after_add, after_end, HasStage};
+ghost use Rattle.std.specs.Prelude.{◌≡◌, ◌<◌, is_some, IfSome, true, false, Some, None};
+ghost use Rattle.std.specs.Bool.{OnTrue, OnFalse};
+ghost use Rattle.indexmap.specs.IndexMap.{spare};
+ghost use Rattle.cj_queue.specs.declared.stage.Stage.TheVariants.{Held, Again};
+ghost use Rattle.cj_queue.specs.Parts.{stage_of, is_again, HasStage};
 
 use crate::secret::Secret;
-use cj_types::{Key, Refusal};
-use std::collections::HashMap;
+use cj_types::Key;
+use indexmap::IndexMap;
 
-/// Where a key of the queue is.
+/// How a key that is being worked on stands.
 #[derive(Clone, Copy)]
 pub enum Stage {
-    /// In the line.
-    Lined,
-    /// Being worked on.
+    /// Nobody added it since it was taken.
     Held,
-    /// Being worked on, and added again meanwhile.
+    /// It was added again meanwhile.
     Again,
 }
 
-/// Whether a key of the stage, if it has one, is being worked on.
-pub fn is_held(stage: Option<Stage>) -> bool
-    ensures { result ≡ is_held stage }
+/// Notes an add of the key where it is being worked on. Answers whether it is.
+pub fn note_add(busy: &mut IndexMap<Key, Stage, Secret>, key: &Key) -> bool
+    ensures held { result ≡ is_some (stage_of busy.old.entries key.now) }
+    ensures again { OnTrue result (HasStage busy.old.entries busy.new.entries key.now (Some Again)) }
+    ensures stays { OnFalse result (busy.new.entries ≡ busy.old.entries) }
 {
-    match stage {
-        Some(Stage::Held | Stage::Again) => true,
-        _ => false,
+    if busy.is_empty() {
+        return false;
     }
-}
-
-/// Changes the stage of a key.
-pub fn set_stage(stages: &mut HashMap<Key, Stage, Secret>, key: &Key, stage: Stage)
-    requires there { is_some (stage_of stages.old.entries key.now) ≡ true }
-    ensures stage { HasStage stages.old.entries stages.new.entries key.now (Some stage) }
-    ensures spare { spare stages.new ≡ spare stages.old }
-{
-    let Some(place) = stages.get_mut(key) else {
-        return;
+    let Some(stage) = busy.get_mut(key) else {
+        return false;
     };
-    *place = stage;
+    *stage = Stage::Again;
+    true
 }
 
-/// Notes an add of the key. Answers whether it goes into the line. `copy` is the same key.
-pub fn admit(
-    stages: &mut HashMap<Key, Stage, Secret>,
-    key: Key,
-    copy: &Key,
-) -> Result<bool, Refusal>
-    requires same { copy.now ≡ key }
-    ensures goes { IfOk result (λ goes. goes ≡ not (is_some (stage_of stages.old.entries key))) }
-    ensures stage { OnOk result (HasStage stages.old.entries stages.new.entries key
-        (Some (after_add (stage_of stages.old.entries key)))) }
-    ensures err { OnErr result (stages.new.entries ≡ stages.old.entries) }
-    ensures memory { IfErr result (λ e. e ≡ OutOfMemory) }
-    ensures succeeds { 0 < spare stages.old → IsOk result }
-    ensures spare { spare stages.old ≤ spare stages.new + 1 }
+/// Notes that the key is being worked on.
+pub fn hold(busy: &mut IndexMap<Key, Stage, Secret>, key: Key)
+    requires room { 0 < spare busy.old }
+    ensures { HasStage busy.old.entries busy.new.entries key (Some Held) }
 {
-    match stages.insert(key, Stage::Lined) {
-        Err(_) => Err(Refusal::OutOfMemory),
-        Ok(None) => Ok(true),
-        Ok(Some(Stage::Lined)) => Ok(false),
-        Ok(Some(_)) => {
-            set_stage(stages, copy, Stage::Again);
-            Ok(false)
-        }
-    }
+    busy.insert(key, Stage::Held).unwrap();
 }
 
-/// Notes the end of the work on the key. Answers whether it goes into the line.
-pub fn release(stages: &mut HashMap<Key, Stage, Secret>, key: &Key) -> bool
-    requires room { 0 < spare stages.old }
-    ensures goes { result ≡ is_again (stage_of stages.old.entries key.now) }
-    ensures stage { HasStage stages.old.entries stages.new.entries key.now
-        (after_end (stage_of stages.old.entries key.now)) }
-    ensures spare { spare stages.old ≤ spare stages.new + 1 }
+/// Notes the end of the work on the key. Answers the key where it was added again meanwhile.
+pub fn release(busy: &mut IndexMap<Key, Stage, Secret>, key: &Key) -> Option<Key>
+    ensures again { is_some result ≡ is_again (stage_of busy.old.entries key.now) }
+    ensures key { IfSome result (λ k. k ≡ key.now) }
+    ensures ended { HasStage busy.old.entries busy.new.entries key.now None }
 {
-    match stages.remove_entry(key) {
-        Some((kept, Stage::Again)) => {
-            let _ = stages.insert(kept, Stage::Lined);
-            true
-        }
-        _ => false,
+    match busy.swap_remove_entry(key) {
+        Some((kept, Stage::Again)) => Some(kept),
+        _ => None,
     }
 }

@@ -5,8 +5,8 @@ use Rattle.cj_queue.specs.Times.{ready, without}
 use Rattle.cj_queue.proofs.Ready.{turns_left, places_left, place_for, none_left}
 use Rattle.cj_queue.proofs.queue.add_ready.Goals as goal
 
-pub add-requires-clause-room : goal.add-requires-clause-room
-add-requires-clause-room c = place_for _ _ c.in-Some.key _ c.in-Some.ensures.ready c.loop.invariant.1
+pub add-requires : goal.add-requires
+add-requires c = record { room = place_for _ _ c.in-Some.key _ c.in-Some.ensures.ready c.loop.invariant.1 }
 
 pub loop-preserved : goal.loop-preserved
 loop-preserved c =

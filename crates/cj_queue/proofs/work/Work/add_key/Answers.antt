@@ -1,36 +1,46 @@
--- Work::add_key: its clause ok, by whether the key goes into the line, and the type's invariant where it does.
-use Rattle.std.proofs.Common.{◌++◌, ◌∷◌, [], sym, ap, ◌∙◌}
+-- Work::add_key: its clause ok, by whether the key is being worked on, and the type's invariant where it is not.
+use Rattle.std.proofs.Common.{◌≡◌, Some, sym, ap, ◌∙◌, subst}
+use Rattle.cj_queue.specs.declared.stage.Stage.TheVariants.{Again}
 use Rattle.cj_queue.specs.Queue.{row_add}
-use Rattle.cj_queue.specs.Parts.{row_of}
-use Rattle.cj_queue.proofs.StageLemmas.{added_last, added_known, staged_added}
+use Rattle.cj_queue.specs.Parts.{stage_of, IsFree, HasStage, row_of}
+use Rattle.cj_queue.proofs.LineLemmas.{on_true, on_false}
+use Rattle.cj_queue.proofs.Ready.{on_ok}
+use Rattle.cj_queue.proofs.StageLemmas.{none_of, added_free, added_held, free_add}
 use Rattle.cj_queue.proofs.work.Work.add_key.Goals as goal
 
-pub returns-then-not-branch-clause-ok : goal.returns-then-not-branch-clause-ok
-returns-then-not-branch-clause-ok c =
-    let line = c.self.inside.line.items in
-    let stages = c.self.inside.stages.entries in
-    ap (λ l. row_of l c.admit.new.stages.entries) c.reserve.ensures.items
-    ∙ sym (added_known line stages c.admit.new.stages.entries c.in_ok-copy.copy c.self.invariant
-    c.in_ok-admit.ensures.stage (sym c.in_ok-admit.ensures.goes ∙ c.if-not-branch.true))
-    ∙ ap (row_add (row_of line stages)) c.in_ok-copy.ensures.one
+pub returns-then-note_add-clause-ok : goal.returns-then-note_add-clause-ok
+returns-then-note_add-clause-ok c =
+    let busy = c.self.inside.busy.entries in
+    let now = c.note_add.new.busy.entries in
+    let held = c.if-note_add.true in
+    let again : HasStage busy now c.args.key.now (Some Again) =
+    on_true c.note_add.result _ held c.note_add.ensures.again in
+    sym (added_held c.self.inside.line.keys busy now c.args.key.now (sym c.note_add.ensures.held ∙ held) again)
     ∙ ap (λ v. row_add v.row c.args.key.now) c.self.view_is
 
 pub invariant_of-self-2 : goal.invariant_of-self-2
 invariant_of-self-2 c =
-    let line = c.self.inside.line.items in
-    let pushed = c.push_back_reserved.ensures.items ∙ ap (λ l. l ++ c.in_ok-copy.last ∷ []) c.reserve.ensures.items
-    ∙ ap (λ k. line ++ k ∷ []) (c.in_ok-copy.ensures.other ∙ sym c.in_ok-copy.ensures.one) in
-    staged_added line c.push_back_reserved.new.self.items c.self.inside.stages.entries c.admit.new.stages.entries
-    c.in_ok-copy.copy c.self.invariant c.in_ok-admit.ensures.stage
-    (sym c.in_ok-admit.ensures.goes ∙ c.if-not-branch.false) pushed
+    let busy = c.self.inside.busy.entries in
+    let copy = c.in_ok-copy.copy in
+    let free = c.if-note_add.false in
+    let none : stage_of busy copy ≡ _ = ap (stage_of busy) c.in_ok-copy.ensures.ok
+    ∙ none_of _ (sym c.note_add.ensures.held ∙ free) in
+    let stays : c.note_add.new.busy.entries ≡ busy = on_false c.note_add.result _ free c.note_add.ensures.stays in
+    subst (λ b. IsFree c.add.new.self.keys b) (sym stays)
+    (free_add c.add.result c.self.inside.line.keys c.add.new.self.keys busy copy c.self.invariant none
+    c.add.ensures.ok c.add.ensures.err)
 
 pub returns-clause-ok : goal.returns-clause-ok
 returns-clause-ok c =
-    let line = c.self.inside.line.items in
-    let stages = c.self.inside.stages.entries in
-    let pushed = c.push_back_reserved.ensures.items ∙ ap (λ l. l ++ c.in_ok-copy.last ∷ []) c.reserve.ensures.items
-    ∙ ap (λ k. line ++ k ∷ []) (c.in_ok-copy.ensures.other ∙ sym c.in_ok-copy.ensures.one) in
-    sym (added_last line c.push_back_reserved.new.self.items stages c.admit.new.stages.entries c.in_ok-copy.copy
-    c.self.invariant c.in_ok-admit.ensures.stage (sym c.in_ok-admit.ensures.goes ∙ c.if-not-branch.false) pushed)
-    ∙ ap (row_add (row_of line stages)) c.in_ok-copy.ensures.one
-    ∙ ap (λ v. row_add v.row c.args.key.now) c.self.view_is
+    let busy = c.self.inside.busy.entries in
+    let line = c.self.inside.line.keys in
+    let copy = c.in_ok-copy.copy in
+    let free = c.if-note_add.false in
+    let none : stage_of busy copy ≡ _ = ap (stage_of busy) c.in_ok-copy.ensures.ok
+    ∙ none_of _ (sym c.note_add.ensures.held ∙ free) in
+    let stays : c.note_add.new.busy.entries ≡ busy = on_false c.note_add.result _ free c.note_add.ensures.stays in
+    on_ok c.add.result _ _
+    (λ put. (λ i. row_of (put i) (stays i)) ∙ sym (added_free line busy copy c.self.invariant none)
+    ∙ ap (row_add (row_of line busy)) c.in_ok-copy.ensures.ok
+    ∙ ap (λ v. row_add v.row c.args.key.now) c.self.view_is)
+    c.add.ensures.ok

@@ -1,22 +1,24 @@
--- Work::take: its clause row and the type's invariant, where the line has a first key, which has a stage.
-use Rattle.std.proofs.Common.{sym, ap, ◌∙◌}
+-- Work::take: its clause ok and the type's invariant, where the line has a first key.
+use Rattle.std.proofs.Common.{◌≡◌, ◌∷◌, Some, sym, ap, ◌∙◌, subst}
+use Rattle.cj_queue.specs.declared.stage.Stage.TheVariants.{Held}
 use Rattle.cj_queue.specs.Queue.{row_take}
-use Rattle.cj_queue.proofs.StageLemmas.{head_has, staged_taken, taken}
+use Rattle.cj_queue.specs.Parts.{HasStage}
+use Rattle.cj_queue.proofs.StageLemmas.{taken, free_taken}
 use Rattle.cj_queue.proofs.work.Work.take.Goals as goal
-
-pub set_stage-requires : goal.set_stage-requires
-set_stage-requires c = record {
-  there = head_has c.self.inside.line.items c.pop_front.new.self.items c.self.inside.stages.entries c.in-Some.key
-      c.self.invariant c.in-Some.ensures.items;
-}
 
 pub invariant_of-self-2 : goal.invariant_of-self-2
 invariant_of-self-2 c =
-    staged_taken c.self.inside.line.items c.pop_front.new.self.items c.self.inside.stages.entries
-    c.set_stage.new.stages.entries c.in-Some.key c.self.invariant c.in-Some.ensures.items c.set_stage.ensures.stage
+    let key = c.in-Some-pop.key in
+    let held = subst (λ b. HasStage b c.hold.new.busy.entries key (Some Held)) c.reserve.ensures.entries
+    c.hold.ensures in
+    free_taken c.self.inside.line.keys c.pop.new.self.keys c.self.inside.busy.entries c.hold.new.busy.entries key
+    c.self.invariant (sym c.in-Some-pop.ensures.keys) held
 
-pub returns-clause-row : goal.returns-clause-row
-returns-clause-row c =
-    sym (taken c.self.inside.line.items c.pop_front.new.self.items c.self.inside.stages.entries
-    c.set_stage.new.stages.entries c.in-Some.key c.self.invariant c.in-Some.ensures.items c.set_stage.ensures.stage)
+pub returns-clause-ok : goal.returns-clause-ok
+returns-clause-ok c =
+    let key = c.in-Some-pop.key in
+    let held = subst (λ b. HasStage b c.hold.new.busy.entries key (Some Held)) c.reserve.ensures.entries
+    c.hold.ensures in
+    sym (taken c.self.inside.line.keys c.pop.new.self.keys c.self.inside.busy.entries c.hold.new.busy.entries key
+    c.self.invariant (sym c.in-Some-pop.ensures.keys) held)
     ∙ ap (λ v. row_take v.row) c.self.view_is
