@@ -5,7 +5,7 @@ use Rattle.std.proofs.lemmas.List.Folds.{list_any-append}
 use Rattle.cj_types.specs.Keys.{Place}
 use Rattle.cj_queue.specs.Queue.{Row, row_add, row_end, row_take, first, has}
 use Rattle.cj_queue.specs.Parts.{key_eq, keys_of, stands_in, IsLined}
-use Rattle.cj_queue.proofs.Sets.{has_keys, keys_put, keys_removal, same_keys, at_equal, eq_true, eq_self, eq_turned}
+use Rattle.cj_queue.proofs.Sets.{has_keys, keys_put, keys_removal, same_keys, at_equal, eq_self, eq_turned}
 use Rattle.cj_queue.proofs.LineLemmas.{head_once, refuted, true_or_false}
 
 -- the row of a line, of the keys that were added again and of those that are being worked on

@@ -9,7 +9,7 @@ use Rattle.cj_queue.specs.declared.stage.Stage.{Stage}
 use Rattle.cj_queue.specs.declared.stage.Stage.TheVariants.{Held, Again}
 use Rattle.cj_queue.specs.Queue.{has, first as head_of, row_add, row_end, row_take}
 use Rattle.cj_queue.specs.Parts.{key_eq, keys_of, stands_in, are_distinct, Busy, stage_of, is_again, added_again, HasStage, IsFree, with_last, row_of, IsLined}
-use Rattle.cj_queue.proofs.Sets.{has_keys, at_equal, eq_self, eq_true, eq_turned}
+use Rattle.cj_queue.proofs.Sets.{has_keys, at_equal, eq_self, eq_true}
 use Rattle.cj_queue.proofs.LineLemmas.{head_once, tail_once, push_once, in_last, true_or_false}
 use Rattle.cj_queue.proofs.RowLemmas.{row, Sets, on, off, add_lined, add_held, add_new, end_again, end_clean, take_is, out_of_line, same_dirty}
 

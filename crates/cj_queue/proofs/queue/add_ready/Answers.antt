@@ -1,5 +1,5 @@
 -- add_ready: its loop, a turn of which takes one key less to come, and its clauses, where none is to come.
-use Rattle.std.proofs.Common.{◌≡◌, [], sym, ap, ◌∙◌}
+use Rattle.std.proofs.Common.{sym, ap, ◌∙◌}
 use Rattle.cj_queue.specs.Queue.{row_adds}
 use Rattle.cj_queue.specs.Times.{ready, without}
 use Rattle.cj_queue.proofs.Ready.{turns_left, places_left, place_for, none_left}

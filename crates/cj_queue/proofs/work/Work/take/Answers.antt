@@ -1,5 +1,5 @@
 -- Work::take: its clause ok and the type's invariant, where the line has a first key.
-use Rattle.std.proofs.Common.{◌≡◌, ◌∷◌, Some, sym, ap, ◌∙◌, subst}
+use Rattle.std.proofs.Common.{Some, sym, ap, ◌∙◌, subst}
 use Rattle.cj_queue.specs.declared.stage.Stage.TheVariants.{Held}
 use Rattle.cj_queue.specs.Queue.{row_take}
 use Rattle.cj_queue.specs.Parts.{HasStage}
