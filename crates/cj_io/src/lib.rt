@@ -3,7 +3,7 @@
 //! Here belongs how input is read within its limits, as a whole or line by line, how output is
 //! written or begun, and (`zone_files`) which zones an input names and what words and folders give
 //! of them. What is printed belongs to the crates above. They rest on `read_input`,
-//! `LineReader::read_line`, `write_whole` and `Pending`, on `tell_failure`, and on `zones_named`
+//! `LineReader::read_line`, `plain_length`, `write_whole` and `Pending`, on `tell_failure`, and on `zones_named`
 //! and `table_with`.
 #![tactic(auto)]
 
@@ -20,7 +20,7 @@ pub use exit_status::ExitStatus;
 pub use failure::Failure;
 pub use input::{MOST_BYTES, MOST_READS, read_input};
 pub use pending::Pending;
-pub use reader::{LineReader, MOST_LINE_BYTES};
+pub use reader::{LineReader, MOST_LINE_BYTES, plain_length};
 pub use taken::{Kept, Taken};
 pub use writing::{tell_failure, write_and_flush, write_whole};
 pub use zone_files::{

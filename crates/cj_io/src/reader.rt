@@ -45,8 +45,8 @@ fn push(line: &mut Vec<u8>, kept: Kept, part: &[u8]) -> Kept
     }
 }
 
-// How many bytes stand before the first line end.
-fn plain_length(bytes: &[u8]) -> usize
+/// How many bytes stand before the first line end: all of them, if there is none.
+pub fn plain_length(bytes: &[u8]) -> usize
     ensures within { result ≤ length bytes.now }
     ensures before { IsPlain (take result bytes.now) }
     ensures at { result < length bytes.now → slice_index bytes.now result ≡ line_feed }
