@@ -109,7 +109,8 @@ added_free l es k free none = by (stands_in l k) refl
         (stands_busy es k ∙ ap is_some none) e (off (stands_in l k) l (l ++ k ∷ []) e)
 
 -- For Work::add and end: the keys of the line are still free, and in it once, with one that is free put last.
-pub free_last : (l : List Place) (es : Busy) (k : Place) → IsFree l es → stage_of es k ≡ None → IsFree (with_last l k) es
+pub free_last : (l : List Place) (es : Busy) (k : Place) → IsFree l es → stage_of es k ≡ None
+    → IsFree (with_last l k) es
 free_last l es k free none = by (stands_in l k) refl
   where
     last : stands_in l k ≡ false → IsFree (l ++ k ∷ []) es

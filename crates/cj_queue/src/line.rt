@@ -115,7 +115,8 @@ fn has(set: &IndexSet<Key, Secret>, key: &Key) -> bool
 
 // Where no older key is left, those that came since are the older ones.
 fn turn(front: &mut IndexSet<Key, Secret>, back: &mut IndexSet<Key, Secret>)
-    ensures same { reverse front.new.keys ++ back.new.keys ≡ reverse front.old.keys ++ back.old.keys }
+    ensures same { reverse front.new.keys ++ back.new.keys
+        ≡ reverse front.old.keys ++ back.old.keys }
     ensures filled { front.new.keys ≡ [] → back.new.keys ≡ [] }
 {
     if front.is_empty() {

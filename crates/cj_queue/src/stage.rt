@@ -20,7 +20,8 @@ pub enum Stage {
 /// Notes an add of the key where it is being worked on. Answers whether it is.
 pub fn note_add(busy: &mut IndexMap<Key, Stage, Secret>, key: &Key) -> bool
     ensures held { result ≡ is_some (stage_of busy.old.entries key.now) }
-    ensures again { OnTrue result (HasStage busy.old.entries busy.new.entries key.now (Some Again)) }
+    ensures again { OnTrue result
+        (HasStage busy.old.entries busy.new.entries key.now (Some Again)) }
     ensures stays { OnFalse result (busy.new.entries ≡ busy.old.entries) }
 {
     if busy.is_empty() {

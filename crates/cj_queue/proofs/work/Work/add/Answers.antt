@@ -18,7 +18,8 @@ invariant_of-self c =
     let put : c.add.new.self.keys ≡ with_last line c.args.key =
     ok_part c.add.result c.unwrap.result _ c.unwrap.ensures c.add.ensures.ok in
     subst (λ l. IsFree l now) (sym put)
-    (subst (λ b. IsFree (with_last line c.args.key) b) (sym stays) (free_last line busy c.args.key c.self.invariant none))
+    (subst (λ b. IsFree (with_last line c.args.key) b) (sym stays)
+    (free_last line busy c.args.key c.self.invariant none))
 
 pub returns-then-not-note_add-clause-row : goal.returns-then-not-note_add-clause-row
 returns-then-not-note_add-clause-row c =
