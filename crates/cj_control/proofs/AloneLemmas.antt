@@ -8,10 +8,10 @@ use Rattle.cj_fence.specs.declared.call.Call.{Call}
 use Rattle.cj_fence.specs.declared.answer.Answer.{Answer}
 use Rattle.cj_fence.specs.Protocol.{Own, advanced}
 use Rattle.cj_control.specs.declared.deed.Deed.{Deed}
-use Rattle.cj_control.specs.declared.deed.Deed.TheVariants.{Asks, Begins, Ends, Hears, Reads, Sends}
+use Rattle.cj_control.specs.declared.deed.Deed.TheVariants.{Asks, Begins, Ends, Hears, Reads, Sends, Ticks}
 use Rattle.cj_control.specs.declared.rows.FencedSync.{FencedSync}
 use Rattle.cj_control.specs.Syncs.{Rows, Syncs, nothing, fresh, AreAlone, IsOf, HasBegun, RowAsks, RowEnds, RowHears, Moves, Path, heard, own, FollowLaw}
-use Rattle.cj_control.proofs.FollowLemmas.{number_is, unheard, asking, hearing, put_at, removed_at, follows, always, workers_are}
+use Rattle.cj_control.proofs.FollowLemmas.{number_is, unheard, asking, hearing, put_at, removed_at, follows, always, always_timely, workers_are}
 
 -- a call that a sync of this CronJob may ask
 abbrev IsIts : List ℕ → Own → Type 0
@@ -198,10 +198,12 @@ named_after workers ds s t p i (Begins y n) m =
     begun_named (λ q. own q ds) s t i y n m (none_own workers ds s p y m.number)
 named_after workers ds s t p i (Asks y call) m =
     asked_named (λ q. own q ds) s.rows t.rows i y call None m.row
-named_after workers ds s t p i (Sends y id call r) m =
+named_after workers ds s t p i (Sends y id parts call r) m =
     asked_named (λ q. own q ds) s.rows t.rows i y call (Some id) m.row
 named_after workers ds s t p i (Reads id r) m =
     subst (Named (λ q. own q ds)) (sym (ap (λ (x : Syncs). x.rows) m.after)) i
+named_after workers ds s t p i (Ticks moment) m =
+    subst (Named (λ q. own q ds)) (sym (ap (λ (x : Syncs). x.rows) m)) i
 named_after workers ds s t p i (Hears y a) m = heard_named (λ q. own q ds) s.rows t.rows i y a m.row
 named_after workers ds s t p i (Ends y) m =
     kept_named (λ q. own q ds) s.rows t.rows i (cut_keeps s.rows t.rows y m.row.after)
@@ -218,6 +220,7 @@ always_named workers (d ∷ ds) s p =
 pub all_follow : FollowLaw
 all_follow workers ds s p = record {
   follows = λ y. follows (map.get s.rows y) (own y ds) ((always workers ds s p).each y);
+  timely = always_timely workers ds s p;
   alone = (always_named workers ds s p).alone;
   its = (always_named workers ds s p).its;
   few = let i = always workers ds s p in

@@ -10,11 +10,12 @@ use Rattle.cj_fence.specs.declared.answer.Answer.{Answer}
 use Rattle.cj_fence.specs.declared.answer.Answer.TheVariants.{Lost}
 use Rattle.cj_fence.specs.declared.sync.Sync.{Sync}
 use Rattle.cj_fence.specs.Protocol.{Own, May, Follows, seen_of, advanced}
+use Rattle.cj_control.specs.declared.calls.CronParts.{CronParts}
 use Rattle.cj_control.specs.declared.deed.Deed.{Deed}
-use Rattle.cj_control.specs.declared.deed.Deed.TheVariants.{Asks, Begins, Ends, Hears, Reads, Sends}
+use Rattle.cj_control.specs.declared.deed.Deed.TheVariants.{Asks, Begins, Ends, Hears, Reads, Sends, Ticks}
 use Rattle.cj_control.specs.declared.rows.FencedSync.{FencedSync}
 use Rattle.cj_control.specs.declared.sent.Request.{Request}
-use Rattle.cj_control.specs.Syncs.{Rows, Syncs, nothing, fresh, HasBegun, HasAsked, HasSent, HasRead, HasHeard, HasEnded, RowAsks, Moves, Path, heard, own}
+use Rattle.cj_control.specs.Syncs.{Rows, Syncs, nothing, fresh, HasBegun, HasAsked, HasSent, HasRead, HasHeard, HasEnded, RowAsks, Moves, Path, AreTimely, IsTimely, clock_of, heard, own}
 
 -- Two numbers are equal by the order's test just where they are by the test of numbers.
 same_number : (q k : ℕ) → eq_by_cmp nat_cmp q k ≡ (q == k)
@@ -290,6 +291,24 @@ module _ (o : ℕ → List Own) (s t : Syncs) (i : Inv o s) where
       past : (q : ℕ) → t.begun ≤ q → s.begun ≤ q
       past q le = let e : t.begun ≡ s.begun = ap (λ (x : Syncs). x.begun) a.after in omega (arith, le, e)
 
+  -- Nor does the clock.
+  ticked_kept : (moment : ℕ) → t ≡ record s { clock = moment } → Inv o t
+  ticked_kept moment a = record {
+    each = λ q. subst (λ (x : Rows). Fits (map.get x q) (o q)) (sym rows) (i.each q);
+    none = λ q le. i.none q (past q le);
+    absent = λ q le. ap (λ (x : Rows). map.get x q) rows ∙ i.absent q (past q le);
+    count = ap (λ (x : Rows). map.len x) rows ∙ i.count ∙ sym (ap (λ (x : Syncs). x.live) a);
+    few = let e : t.live ≡ s.live = ap (λ (x : Syncs). x.live) a in
+        let f : t.workers ≡ s.workers = ap (λ (x : Syncs). x.workers) a in
+        let r : s.live ≤ s.workers = i.few in omega (arith, e, f, r);
+  }
+    where
+      rows : t.rows ≡ s.rows
+      rows = ap (λ (x : Syncs). x.rows) a
+
+      past : (q : ℕ) → t.begun ≤ q → s.begun ≤ q
+      past q le = let e : t.begun ≡ s.begun = ap (λ (x : Syncs). x.begun) a in omega (arith, le, e)
+
 -- What a deed leaves as it was.
 counts_asked : (y : ℕ) (call : Call) (s t : Syncs) → HasAsked y call s t → SameCounts s t
 counts_asked y call s t a = record {
@@ -299,8 +318,9 @@ counts_asked y call s t a = record {
 }
 
 -- The same of a request.
-counts_sent : (y id : ℕ) (call : Call) (r : Request) (s t : Syncs) → HasSent y id call r s t → SameCounts s t
-counts_sent y id call r s t a = record {
+counts_sent : (y id : ℕ) (parts : CronParts) (call : Call) (r : Request) (s t : Syncs)
+    → HasSent y id parts call r s t → SameCounts s t
+counts_sent y id parts call r s t a = record {
   begun = ap (λ (x : Syncs). x.begun) a.after;
   live = ap (λ (x : Syncs). x.live) a.after;
   workers = ap (λ (x : Syncs). x.workers) a.after;
@@ -312,11 +332,12 @@ kept : (ds : List Deed) (s t : Syncs) → Inv (λ q. own q ds) s → (d : Deed) 
 kept ds s t i (Begins y n) m = begun_kept (λ q. own q ds) s t i y n m
 kept ds s t i (Asks y call) m =
     asked_kept (λ q. own q ds) s t i y call None m.row (counts_asked y call s t m)
-kept ds s t i (Sends y id call r) m =
-    asked_kept (λ q. own q ds) s t i y call (Some id) m.row (counts_sent y id call r s t m)
+kept ds s t i (Sends y id parts call r) m =
+    asked_kept (λ q. own q ds) s t i y call (Some id) m.row (counts_sent y id parts call r s t m)
 kept ds s t i (Reads id r) m = read_kept (λ q. own q ds) s t i id r m
 kept ds s t i (Hears y a) m = heard_kept (λ q. own q ds) s t i y a m
 kept ds s t i (Ends y) m = ended_kept (λ q. own q ds) s t i y m
+kept ds s t i (Ticks moment) m = ticked_kept (λ q. own q ds) s t i moment m
 
 -- Where nothing began, nobody did anything.
 at_start : (workers : ℕ) → Inv (λ q. own q []) (nothing workers)
@@ -337,12 +358,46 @@ always workers (d ∷ ds) s p = kept ds p.0 s (always workers ds p.0 p.1) d p.2
 pub same_workers : (d : Deed) (s t : Syncs) → Moves d s t → t.workers ≡ s.workers
 same_workers (Begins y n) s t m = ap (λ (x : Syncs). x.workers) m.after
 same_workers (Asks y call) s t m = ap (λ (x : Syncs). x.workers) m.after
-same_workers (Sends y id call r) s t m = ap (λ (x : Syncs). x.workers) m.after
+same_workers (Sends y id parts call r) s t m = ap (λ (x : Syncs). x.workers) m.after
 same_workers (Reads id r) s t m = ap (λ (x : Syncs). x.workers) m.after
 same_workers (Hears y a) s t m = ap (λ (x : Syncs). x.workers) m.after
 same_workers (Ends y) s t m = ap (λ (x : Syncs). x.workers) m.after
+same_workers (Ticks moment) s t m = ap (λ (x : Syncs). x.workers) m
 
 -- So after all deeds as many may be under way as at the start.
 pub workers_are : (workers : ℕ) (ds : List Deed) (s : Syncs) → Path ds (nothing workers) s → s.workers ≡ workers
 workers_are workers [] s p = ap (λ (x : Syncs). x.workers) p
 workers_are workers (d ∷ ds) s p = same_workers d p.0 s p.2 ∙ workers_are workers ds p.0 p.1
+
+-- ---- the clock
+
+-- After a deed the clock is at what was said last.
+clock_after : (ds : List Deed) (s t : Syncs) → s.clock ≡ clock_of ds → (d : Deed) → Moves d s t
+    → t.clock ≡ clock_of (d ∷ ds)
+clock_after ds s t e (Begins y n) m = ap (λ (x : Syncs). x.clock) m.after ∙ e
+clock_after ds s t e (Asks y call) m = ap (λ (x : Syncs). x.clock) m.after ∙ e
+clock_after ds s t e (Sends y id parts call r) m = ap (λ (x : Syncs). x.clock) m.after ∙ e
+clock_after ds s t e (Reads id r) m = ap (λ (x : Syncs). x.clock) m.after ∙ e
+clock_after ds s t e (Hears y a) m = ap (λ (x : Syncs). x.clock) m.after ∙ e
+clock_after ds s t e (Ends y) m = ap (λ (x : Syncs). x.clock) m.after ∙ e
+clock_after ds s t e (Ticks moment) m = ap (λ (x : Syncs). x.clock) m
+
+-- So after all deeds it is there.
+clock_is : (workers : ℕ) (ds : List Deed) (s : Syncs) → Path ds (nothing workers) s → s.clock ≡ clock_of ds
+clock_is workers [] s p = ap (λ (x : Syncs). x.clock) p
+clock_is workers (d ∷ ds) s p = clock_after ds p.0 s (clock_is workers ds p.0 p.1) d p.2
+
+-- What is asked is of no moment past it.
+pub always_timely : (workers : ℕ) (ds : List Deed) (s : Syncs) → Path ds (nothing workers) s → AreTimely ds
+always_timely workers [] s p = tt
+always_timely workers (d ∷ ds) s p =
+    more d p.2 (clock_is workers ds p.0 p.1) (always_timely workers ds p.0 p.1)
+  where
+    more : (d : Deed) → Moves d p.0 s → p.0.clock ≡ clock_of ds → AreTimely ds → AreTimely (d ∷ ds)
+    more (Begins y n) m e a = a
+    more (Asks y call) m e a = (subst (λ (c : ℕ). IsTimely c call) e m.timely, a)
+    more (Sends y id parts call r) m e a = (subst (λ (c : ℕ). IsTimely c call) e m.timely, a)
+    more (Reads id r) m e a = a
+    more (Hears y a) m e b = b
+    more (Ends y) m e a = a
+    more (Ticks moment) m e a = a

@@ -1,6 +1,6 @@
 -- What a line says as the answer to a call of a sync (Kubernetes API conventions, "HTTP status
 -- codes"; API concepts, "Resource versions").
-use Rattle.std.specs.Prelude.{◌≡◌, ℕ, ◌==◌, ◌&&◌, ◌||◌, not, List, codes, bytes_eq, Bool, true, false, if◌then◌else◌, Option, Some, None, option_and_then, Result, Ok, Err}
+use Rattle.std.specs.Prelude.{◌≡◌, ℕ, ◌==◌, ◌&&◌, ◌||◌, not, List, codes, bytes_eq, Bool, true, false, if◌then◌else◌, Option, Some, None, option_and_then, is_some, Result, Ok, Err}
 use Rattle.serde_json.specs.Data.{Data}
 use Rattle.serde_json.specs.Find.{as_str}
 use Rattle.cj_base.specs.declared.refusal.Refusal.{Refusal}
@@ -13,7 +13,7 @@ use Rattle.cj_fence.specs.declared.objects.Job.{Job}
 use Rattle.cj_fence.specs.declared.table.Row.{Row}
 use Rattle.cj_fence.specs.Objects.{is_policy, waits}
 use Rattle.cj_cluster.specs.kubectl.Rows.{member_of}
-use Rattle.cj_control.specs.Objects.{IsCron, IsJob, is_text}
+use Rattle.cj_control.specs.Objects.{IsCron, IsJob, hold_in, is_text}
 use Rattle.cj_control.specs.SentFor.{name_in}
 use Rattle.cj_control.specs.declared.line.LineKind.{LineKind}
 use Rattle.cj_control.specs.declared.line.LineKind.TheVariants.{Answered, Failed, Told, Clock, Stop}
@@ -126,17 +126,19 @@ is_made name j row =
     && ((row.object.time == j.time && is_policy row.object.policy j.policy)
     && (waits row.object && not row.object.pinned))
 
-abbrev pub job_made : List ℕ → Job → Result (Row Job) Refusal → Answer
-job_made name j (Err e) = Is.Lost
-job_made name j (Ok row) =
-    if is_made name j row
+-- by whether a start can take its hold away
+abbrev pub job_made : List ℕ → Job → Bool → Result (Row Job) Refusal → Answer
+job_made name j known (Err e) = Is.Lost
+job_made name j known (Ok row) =
+    if known && is_made name j row
     then Is.Created (record { uid = row.object.uid; version = row.object.version })
     else Is.Lost
 
 abbrev pub IsJobMade : List ℕ → Job → Option Data → Answer → Type 0
 IsJobMade name j None a = a ≡ Is.Lost
 IsJobMade name j (Some d) a =
-    (read : Result (Row Job) Refusal) × IsJob d read × (a ≡ job_made name j read)
+    (read : Result (Row Job) Refusal) × IsJob d read
+    × (a ≡ job_made name j (is_some (hold_in d)) read)
 
 -- by whether the status is 201
 -- rule: control-made

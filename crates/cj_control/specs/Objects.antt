@@ -288,10 +288,15 @@ hold_of text =
     else (if is_text (codes "parallelism") text then Some Parallelism
     else (if is_text (codes "true") text then Some Unsaid else None))
 
--- by an annotation; none where the Job isn't held
+-- by an annotation; none where the Job isn't held, or in a way that isn't known here
 -- rule: control-held
 abbrev pub hold_in : Data → Option Hold
 hold_in d = hold_of (annotation (codes "cronsim/held") d)
+
+-- while the annotation is there, whatever it says: a newer version may know more kinds of hold
+-- rule: control-held
+abbrev pub is_held : Data → Bool
+is_held d = is_some (annotation (codes "cronsim/held") d)
 
 -- what a Job's marks, its status and its metadata say
 -- rule: control-reads
@@ -299,7 +304,7 @@ pub record AreMarks (d : Data) (m : JobMarks) : Type 0 where
   pub time : IsTimeMark
       (annotation (codes "batch.kubernetes.io/cronjob-scheduled-timestamp") d) m.time
   pub policy : m.policy ≡ policy_mark (annotation (codes "cronsim/policy") d)
-  pub held : m.held ≡ is_some (hold_in d)
+  pub held : m.held ≡ is_held d
   pub finished : m.finished ≡ has_ended (list_or_none
       (option_and_then as_array (status (codes "conditions") d)))
   pub deleting : m.deleting ≡ is_some (meta (codes "deletionTimestamp") d)

@@ -12,9 +12,11 @@ use Rattle.cj_fence.specs.declared.answer.Answer.TheVariants.{Lost}
 use Rattle.cj_fence.specs.declared.sync.Sync.TheVariants.{Fresh}
 use Rattle.cj_fence.specs.Protocol.{Own, May, Follows, advanced}
 use Rattle.cj_control.specs.declared.deed.Deed.{Deed}
-use Rattle.cj_control.specs.declared.deed.Deed.TheVariants.{Asks, Begins, Ends, Hears, Reads, Sends}
+use Rattle.cj_control.specs.declared.calls.CronParts.{CronParts}
+use Rattle.cj_control.specs.declared.deed.Deed.TheVariants.{Asks, Begins, Ends, Hears, Reads, Sends, Ticks}
 use Rattle.cj_control.specs.declared.rows.FencedSync.{FencedSync}
 use Rattle.cj_control.specs.declared.sent.Request.{Request}
+use Rattle.cj_control.specs.Parts.{IsExactly}
 use Rattle.cj_control.specs.SentFor.{IsOfNoSync, IsSentFor}
 
 -- ---- the syncs under way
@@ -23,33 +25,36 @@ use Rattle.cj_control.specs.SentFor.{IsOfNoSync, IsSentFor}
 abbrev pub Rows : Type 0
 Rows = FinMap nat_cmp FencedSync
 
--- with how many began, how many of them haven't ended, how many may be under way at a time, and the
--- number of the next request
+-- with how many began, how many of them haven't ended, how many may be under way at a time, the
+-- number of the next request, and what the clock said last
 pub record Syncs : Type 0 where
   pub rows : Rows
   pub begun : ℕ
   pub live : ℕ
   pub workers : ℕ
   pub next : ℕ
+  pub clock : ℕ
 
 abbrev pub coded_syncs : Coded Syncs
 coded_syncs =
-    code_by (Rows × (ℕ × (ℕ × (ℕ × ℕ))))
+    code_by (Rows × (ℕ × (ℕ × (ℕ × (ℕ × ℕ)))))
     (coded× (code coded_ℕ fenced_sync.coded)
-    (coded× coded_ℕ (coded× coded_ℕ (coded× coded_ℕ coded_ℕ))))
-    (λ s. (s.rows, (s.begun, (s.live, (s.workers, s.next)))))
+    (coded× coded_ℕ (coded× coded_ℕ (coded× coded_ℕ (coded× coded_ℕ coded_ℕ)))))
+    (λ s. (s.rows, (s.begun, (s.live, (s.workers, (s.next, s.clock))))))
     (λ p. record {
       rows = p.0;
       begun = (p.1).0;
       live = ((p.1).1).0;
       workers = (((p.1).1).1).0;
-      next = (((p.1).1).1).1;
+      next = ((((p.1).1).1).1).0;
+      clock = ((((p.1).1).1).1).1;
     })
     (λ _. refl)
 
--- none began, and nothing was sent
+-- none began, nothing was sent, and no clock was heard
 abbrev pub nothing : ℕ → Syncs
-nothing workers = record { rows = empty; begun = 0; live = 0; workers = workers; next = 1 }
+nothing workers =
+    record { rows = empty; begun = 0; live = 0; workers = workers; next = 1; clock = 0 }
 
 -- one of a CronJob that has asked nothing yet
 abbrev pub fresh : List ℕ → FencedSync
@@ -91,12 +96,24 @@ IsOf n call = Unit {0}
 
 -- one waits for no answer, and the protocol lets it ask this, of its own CronJob
 -- rules: control-follows, control-one-sync
-pub record MayAsk (y : ℕ) (call : Call) (m : Rows) : Type 0 where
+pub record RowMayAsk (y : ℕ) (call : Call) (m : Rows) : Type 0 where
   pub sync : FencedSync
   pub is : get m y ≡ Some sync
   pub idle : sync.asked ≡ None
   pub may : May sync.sync call
   pub its : IsOf sync.name call
+
+-- a claimed Job is deleted for its starting deadline at no moment past what the clock said last
+-- rule: control-clock
+abbrev pub IsTimely : ℕ → Call → Type 0
+IsTimely clock (Of.Expire job version moment) = moment ≤ clock
+IsTimely clock call = Unit {0}
+
+-- one may ask this now
+-- rules: control-follows, control-clock
+pub record MayAsk (y : ℕ) (call : Call) (s : Syncs) : Type 0 where
+  pub row : RowMayAsk y call s.rows
+  pub timely : IsTimely s.clock call
 
 -- it asks this, by the request of that number or of a cache
 -- rule: control-follows
@@ -127,14 +144,18 @@ pub record RowEnds (y : ℕ) (m n : Rows) : Type 0 where
 -- of a cache
 pub record HasAsked (y : ℕ) (call : Call) (s t : Syncs) : Type 0 where
   pub row : RowAsks y call None s.rows t.rows
+  pub timely : IsTimely s.clock call
   pub after : t ≡ record s { rows = t.rows }
 
--- by a request, which says what the call is, under the next number
+-- by a request, which is the one of the call by these parts of a CronJob, under the next number
 -- rules: control-requests, control-numbers
-pub record HasSent (y id : ℕ) (call : Call) (r : Request) (s t : Syncs) : Type 0 where
+pub record HasSent (y id : ℕ) (parts : CronParts) (call : Call) (r : Request) (s t : Syncs)
+    : Type 0 where
   pub number : id ≡ s.next
   pub row : RowAsks y call (Some id) s.rows t.rows
+  pub timely : IsTimely s.clock call
   pub is : IsSentFor call r
+  pub exact : IsExactly parts call r
   pub after : t ≡ record s { rows = t.rows; next = s.next + 1 }
 
 -- a request of no sync, under the next number
@@ -157,10 +178,11 @@ pub record HasEnded (y : ℕ) (s t : Syncs) : Type 0 where
 abbrev pub Moves : Deed → Syncs → Syncs → Type 0
 Moves (Begins y n) s t = HasBegun y n s t
 Moves (Asks y call) s t = HasAsked y call s t
-Moves (Sends y id call r) s t = HasSent y id call r s t
+Moves (Sends y id parts call r) s t = HasSent y id parts call r s t
 Moves (Reads id r) s t = HasRead id r s t
 Moves (Hears y a) s t = HasHeard y a s t
 Moves (Ends y) s t = HasEnded y s t
+Moves (Ticks moment) s t = t ≡ record s { clock = moment }
 
 -- one deed after the other, the newest first
 -- rule: control-follows
@@ -183,11 +205,12 @@ own y [] = []
 own y (Begins x n ∷ ds) = own y ds
 own y (Asks x call ∷ ds) = if y == x then record { call = call; answer = Lost }
     ∷ own y ds else own y ds
-own y (Sends x id call r ∷ ds) = if y == x then record { call = call; answer = Lost }
+own y (Sends x id parts call r ∷ ds) = if y == x then record { call = call; answer = Lost }
     ∷ own y ds else own y ds
 own y (Reads id r ∷ ds) = own y ds
 own y (Hears x a ∷ ds) = if y == x then heard a (own y ds) else own y ds
 own y (Ends x ∷ ds) = own y ds
+own y (Ticks moment ∷ ds) = own y ds
 
 -- no two of them are of one CronJob
 -- rule: control-one-sync
@@ -195,11 +218,26 @@ abbrev pub AreAlone : Rows → Type 0
 AreAlone m = (y z : ℕ) (f g : FencedSync) → get m y ≡ Some f → get m z ≡ Some g
     → f.name ≡ g.name → y ≡ z
 
+-- what the clock said last; 0 before the first time
+abbrev pub clock_of : List Deed → ℕ
+clock_of [] = 0
+clock_of (Ticks moment ∷ ds) = moment
+clock_of (d ∷ ds) = clock_of ds
+
+-- no call is of a moment past what the clock had said by then
+-- rule: control-clock
+abbrev pub AreTimely : List Deed → Type 0
+AreTimely [] = Unit {0}
+AreTimely (Asks y call ∷ ds) = IsTimely (clock_of ds) call × AreTimely ds
+AreTimely (Sends y id parts call r ∷ ds) = IsTimely (clock_of ds) call × AreTimely ds
+AreTimely (d ∷ ds) = AreTimely ds
+
 -- each sync follows the protocol; those under way are of different CronJobs, each asks of its own,
--- and no more than that number are under way
--- rules: control-follows, control-one-sync, control-workers
+-- and no more than that number are under way; and the clock is kept to
+-- rules: control-follows, control-one-sync, control-workers, control-clock
 pub record AreKept (workers : ℕ) (ds : List Deed) (s : Syncs) : Type 0 where
   pub follows : (y : ℕ) → Follows (own y ds)
+  pub timely : AreTimely ds
   pub alone : AreAlone s.rows
   pub its : (y : ℕ) (sync : FencedSync) → get s.rows y ≡ Some sync
       → All (λ o. IsOf sync.name o.call) (own y ds)

@@ -1,12 +1,14 @@
 ghost use Rattle.std.specs.Prelude.{◌≡◌, ◌↔◌, ◌<◌, ◌≤◌, ℕ, Option, [], Some, None, IfOk, IfErr, IsTrue, OnOk, OnErr, option_copied};
 ghost use Rattle.std.specs.FinMap as map;
 ghost use Rattle.cj_base.specs.declared.refusal.Refusal.TheVariants.{OutOfMemory};
-ghost use Rattle.cj_control.specs.declared.deed.Deed.TheVariants.{Asks, Begins, Ends, Hears, Reads, Sends};
+ghost use Rattle.cj_control.specs.declared.deed.Deed.TheVariants.{Asks, Begins, Ends, Hears, Reads, Sends, Ticks};
 ghost use Rattle.cj_control.specs.declared.rows.FencedSync.{FencedSync};
+ghost use Rattle.cj_control.specs.Parts.{IsExactly};
 ghost use Rattle.cj_control.specs.SentFor.{IsOfNoSync, IsSentFor};
-ghost use Rattle.cj_control.specs.Syncs.{Adds, GaveUp, HasRoom, IsAsked, IsFree, IsNew, MayAsk, Waits, greatest};
+ghost use Rattle.cj_control.specs.Syncs.{Adds, GaveUp, HasRoom, IsAsked, IsFree, IsNew, IsTimely, MayAsk, Waits, greatest};
 
 use crate::Deed;
+use crate::calls::CronParts;
 use crate::rows::{FencedSync, SyncRows};
 use crate::sent::Request;
 use cj_base::{Refusal, Shared, Text, TryCopy};
@@ -22,6 +24,7 @@ pub(crate) struct Book {
     live: u64,
     workers: u64,
     next: u64,
+    clock: u64,
     deeds: Vec<Deed>,
 }
 
@@ -39,6 +42,7 @@ impl Model for Book {
         live = l.live;
         workers = l.workers;
         next = l.next;
+        clock = l.clock;
       };
       deeds = l.deeds.items;
     } };
@@ -52,8 +56,19 @@ impl Drop for Book {
             live: _,
             workers: _,
             next: _,
+            clock: _,
             deeds: _,
         } = self;
+    }
+}
+
+// Whether a call is of no moment past what the clock said last.
+fn is_timely(clock: u64, call: &Call) -> bool
+    ensures { IsTrue result ↔ IsTimely clock call.now }
+{
+    match call {
+        Call::Expire(_, _, moment) => *moment <= clock,
+        _ => true,
     }
 }
 
@@ -68,6 +83,7 @@ impl Book {
             live: 0,
             workers,
             next: 1,
+            clock: 0,
             deeds: Vec::new(alloc),
         }
     }
@@ -123,18 +139,39 @@ impl Book {
         Ok(number)
     }
 
-    /// Whether a sync waits for no answer, and the protocol lets it ask this of its own CronJob.
+    /// Whether a sync waits for no answer, and the protocol lets it ask this of its own CronJob, at
+    /// no moment past what the clock said last.
     pub fn may_ask(&self, number: u64, call: &Call) -> bool
-        ensures { IsTrue result ↔ MayAsk number call.now self.now.syncs.rows }
+        ensures { IsTrue result ↔ MayAsk number call.now self.now.syncs }
     {
-        self.rows.may_ask(number, call)
+        let is_timely = is_timely(self.clock, call);
+        self.rows.may_ask(number, call) && is_timely
+    }
+
+    /// The clock says a moment. Where memory is wanting, all stays as it was.
+    pub fn tick(&mut self, moment: u64) -> Result<(), Refusal>
+        ensures ok { OnOk result (Adds (Ticks moment) self.old self.new) }
+        ensures err { OnErr result (self.new ≡ self.old) }
+        ensures memory { IfErr result (λ e. e ≡ OutOfMemory) }
+    {
+        self.deeds.reserve(1)?;
+        self.clock = moment;
+        self.deeds.push_reserved(Deed::Ticks(moment));
+        Ok(())
+    }
+
+    /// What the clock said last, in seconds since 1970; 0 before the first time.
+    pub fn clock(&self) -> u64
+        ensures { result ≡ self.now.syncs.clock }
+    {
+        self.clock
     }
 
     /// A sync asks what lists and watches told. Where memory is wanting, the sync is given up, or
     /// nothing changed.
     #[tactic(auto, using(crate::proofs::RowLemmas::asked_waits))]
     pub fn ask(&mut self, number: u64, call: Shared<Call>) -> Result<(), Refusal>
-        requires { MayAsk number call self.old.syncs.rows }
+        requires { MayAsk number call self.old.syncs }
         ensures ok { OnOk result (Adds (Asks number call) self.old self.new) }
         ensures waits { OnOk result (Waits number None self.new.syncs.rows) }
         ensures err { OnErr result (GaveUp number self.old self.new) }
@@ -155,18 +192,22 @@ impl Book {
         }
     }
 
-    /// A sync asks the API server by a request, which says what the call is; the request's number.
+    /// A sync asks the API server by a request, which is the one of the call by these parts of a
+    /// CronJob; the request's number.
     /// Where memory is wanting, the sync is given up, or nothing changed.
     pub fn send(
         &mut self,
         number: u64,
+        parts: Shared<CronParts>,
         call: Shared<Call>,
         request: Request,
     ) -> Result<u64, Refusal>
-        requires may { MayAsk number call self.old.syncs.rows }
+        requires may { MayAsk number call self.old.syncs }
         requires says { IsSentFor call request }
+        requires exact { IsExactly parts call request }
         requires number { self.old.syncs.next < greatest }
-        ensures ok { IfOk result (λ id. Adds (Sends number id call request) self.old self.new) }
+        ensures ok { IfOk result (λ id.
+            Adds (Sends number id parts call request) self.old self.new) }
         ensures err { OnErr result (GaveUp number self.old self.new) }
         ensures memory { IfErr result (λ e. e ≡ OutOfMemory) }
     {
@@ -177,7 +218,7 @@ impl Book {
             Ok(()) => {
                 self.next = id + 1;
                 self.deeds
-                    .push_reserved(Deed::Sends(number, id, call, request));
+                    .push_reserved(Deed::Sends(number, id, parts, call, request));
                 Ok(id)
             }
             Err(refusal) => {

@@ -19,7 +19,7 @@ use crate::sent::{
     Request, delete_job, get_cron, get_job, patch_event, patch_job, patch_status, post_event,
     post_job,
 };
-use cj_base::{Refusal, Seconds, Text, TryCopy};
+use cj_base::{Refusal, Seconds, Shared, Text, TryCopy};
 use cj_fence::{Call, Claim, Job, Policy, Ref, Refs, Tidy};
 use cj_json::push_value;
 use cj_manifest::present;
@@ -39,7 +39,7 @@ pub struct CronParts {
     /// The CronJob's names.
     pub head: Head,
     /// `spec.jobTemplate`.
-    pub template: Value,
+    pub template: Shared<Value>,
     /// What tells this template from others.
     pub mark: Text,
 }
@@ -57,6 +57,19 @@ impl Drop for CronParts {
         drop(head);
         drop(template);
         drop(mark);
+    }
+}
+
+impl TryCopy for CronParts {
+    fn try_copy(&self, alloc: Global) -> Result<CronParts, Refusal> {
+        Ok(CronParts {
+            api: self.api,
+            by: self.by,
+            hold: self.hold,
+            head: self.head.try_copy(alloc)?,
+            template: self.template.share()?,
+            mark: self.mark.try_copy(alloc)?,
+        })
     }
 }
 
@@ -164,7 +177,7 @@ fn create_request(
         name,
         &marks,
         source.by,
-        &source.template,
+        source.template.get(),
     )?;
     Ok(Some(post_job(alloc, namespace, body)?))
 }
@@ -249,7 +262,7 @@ fn or_value(alloc: Global, found: Option<&Value>, usual: Value) -> Result<Value,
 fn template_spec<'s>(source: &'s CronParts, name: &str) -> Option<&'s Value>
     ensures { option_map (λ v. view v.now) result ≡ from.template_spec name.now source.now }
 {
-    member(present(&source.template, "spec"), name)
+    member(present(source.template.get(), "spec"), name)
 }
 
 // Whether Jobs of the template are suspended.

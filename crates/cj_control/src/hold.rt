@@ -45,7 +45,15 @@ pub(crate) fn hold_of(text: Option<&str>) -> Option<Hold>
     }
 }
 
-/// What holds a Job back, by its annotation; none where it isn't held.
+/// Whether a Job is held, in whatever way.
+pub fn is_held(job: &Value) -> bool
+    ensures { result ≡ seen.is_held (view job.now) }
+{
+    annotation(job, "cronsim/held").is_some()
+}
+
+/// What holds a Job back, by its annotation; none where it isn't held, or in a way that this
+/// version doesn't know.
 pub fn hold_in(job: &Value) -> Option<Hold>
     ensures { result ≡ seen.hold_in (view job.now) }
 {

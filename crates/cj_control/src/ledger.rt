@@ -1,13 +1,15 @@
 ghost use Rattle.std.specs.Prelude.{◌≡◌, ◌↔◌, ◌<◌, ◌≤◌, ℕ, Option, [], Some, None, IfOk, IfErr, IsTrue, OnOk, OnErr, option_copied};
 ghost use Rattle.std.specs.FinMap as map;
 ghost use Rattle.cj_base.specs.declared.refusal.Refusal.TheVariants.{OutOfMemory};
-ghost use Rattle.cj_control.specs.declared.deed.Deed.TheVariants.{Asks, Begins, Ends, Hears, Reads, Sends};
+ghost use Rattle.cj_control.specs.declared.deed.Deed.TheVariants.{Asks, Begins, Ends, Hears, Reads, Sends, Ticks};
 ghost use Rattle.cj_control.specs.declared.rows.FencedSync.{FencedSync};
+ghost use Rattle.cj_control.specs.Parts.{IsExactly};
 ghost use Rattle.cj_control.specs.SentFor.{IsOfNoSync, IsSentFor};
 ghost use Rattle.cj_control.specs.Syncs.{Adds, GaveUp, HasRoom, IsAsked, IsFree, IsKept, IsNew, MayAsk, Waits, greatest};
 
 use crate::Deed;
 use crate::book::Book;
+use crate::calls::CronParts;
 use crate::rows::FencedSync;
 use crate::sent::Request;
 use cj_base::{Refusal, Shared, Text};
@@ -92,18 +94,37 @@ impl Ledger {
         self.book.begin(alloc, name)
     }
 
-    /// Whether a sync waits for no answer, and the protocol lets it ask this of its own CronJob.
+    /// Whether a sync waits for no answer, and the protocol lets it ask this of its own CronJob, at
+    /// no moment past what the clock said last.
     pub fn may_ask(&self, number: u64, call: &Call) -> bool
-        ensures { IsTrue result ↔ MayAsk number call.now self.now.syncs.rows }
+        ensures { IsTrue result ↔ MayAsk number call.now self.now.syncs }
     {
         self.book.may_ask(number, call)
+    }
+
+    /// The clock says a moment, in seconds since 1970. Where memory is wanting, all stays as it
+    /// was.
+    #[tactic(auto, using(crate::proofs::KeptLemmas::kept_on_same))]
+    pub fn tick(&mut self, moment: u64) -> Result<(), Refusal>
+        ensures ok { OnOk result (Adds (Ticks moment) self.old self.new) }
+        ensures err { OnErr result (self.new ≡ self.old) }
+        ensures memory { IfErr result (λ e. e ≡ OutOfMemory) }
+    {
+        self.book.tick(moment)
+    }
+
+    /// What the clock said last, in seconds since 1970; 0 before the first time.
+    pub fn clock(&self) -> u64
+        ensures { result ≡ self.now.syncs.clock }
+    {
+        self.book.clock()
     }
 
     /// A sync asks what lists and watches told. Where memory is wanting, the sync is given up, or
     /// nothing changed.
     #[tactic(auto, using(crate::proofs::KeptLemmas::kept_on_up))]
     pub fn ask(&mut self, number: u64, call: Shared<Call>) -> Result<(), Refusal>
-        requires { MayAsk number call self.old.syncs.rows }
+        requires { MayAsk number call self.old.syncs }
         ensures ok { OnOk result (Adds (Asks number call) self.old self.new) }
         ensures waits { OnOk result (Waits number None self.new.syncs.rows) }
         ensures err { OnErr result (GaveUp number self.old self.new) }
@@ -112,23 +133,27 @@ impl Ledger {
         self.book.ask(number, call)
     }
 
-    /// A sync asks the API server by a request, which says what the call is; the request's number.
+    /// A sync asks the API server by a request, which is the one of the call by these parts of a
+    /// CronJob; the request's number.
     /// Where memory is wanting, the sync is given up, or nothing changed.
     #[tactic(auto, using(crate::proofs::KeptLemmas::kept_or_up))]
     pub fn send(
         &mut self,
         number: u64,
+        parts: Shared<CronParts>,
         call: Shared<Call>,
         request: Request,
     ) -> Result<u64, Refusal>
-        requires may { MayAsk number call self.old.syncs.rows }
+        requires may { MayAsk number call self.old.syncs }
         requires says { IsSentFor call request }
+        requires exact { IsExactly parts call request }
         requires number { self.old.syncs.next < greatest }
-        ensures ok { IfOk result (λ id. Adds (Sends number id call request) self.old self.new) }
+        ensures ok { IfOk result (λ id.
+            Adds (Sends number id parts call request) self.old self.new) }
         ensures err { OnErr result (GaveUp number self.old self.new) }
         ensures memory { IfErr result (λ e. e ≡ OutOfMemory) }
     {
-        self.book.send(number, call, request)
+        self.book.send(number, parts, call, request)
     }
 
     /// A request of no sync is sent; its number. Where memory is wanting, all stays as it was.

@@ -32,7 +32,7 @@ pub use calls::{CronParts, event_patch, event_request, request_of};
 pub use coming::{Ahead, Errand, calls_ahead, requests_for};
 pub use created::{MarkTexts, created_body};
 pub use deed::Deed;
-pub use hold::{Hold, hold_in};
+pub use hold::{Hold, hold_in, is_held};
 pub use laws::{created_law, follow_law, segment_law, start_law};
 pub use ledger::Ledger;
 pub use line::{Line, LineFault, LineKind, read_line};

@@ -6,6 +6,7 @@ ghost use Rattle.cj_fence.specs.Objects.{is_policy, waits};
 ghost use Rattle.cj_control.specs.Objects.{IsCron, IsJob};
 ghost use Rattle.cj_control.specs.Answers as said;
 
+use crate::hold::hold_in;
 use crate::line::LineKind;
 use crate::names::parts;
 use crate::objects::{is_text, member, read_cron, read_job};
@@ -191,11 +192,19 @@ fn stamp_of(alloc: Global, job: &Job) -> Result<Stamp, Refusal>
     })
 }
 
-fn job_made(alloc: Global, name: &Text, job: &Job, row: &Row<Job>) -> Result<Answer, Refusal>
-    ensures ok { IfOk result (λ a. a ≡ said.job_made name.now job.now (Ok row.now)) }
+// The answer to the creation of a Job, by whether a start can take its hold away.
+fn job_made(
+    alloc: Global,
+    name: &Text,
+    job: &Job,
+    known: bool,
+    row: &Row<Job>,
+) -> Result<Answer, Refusal>
+    ensures ok { IfOk result (λ a. a ≡ said.job_made name.now job.now known (Ok row.now)) }
     ensures err { IfErr result (λ e. e ≡ OutOfMemory) }
 {
-    if is_made(name, job, row) {
+    let made = is_made(name, job, row);
+    if known && made {
         Ok(Answer::Created(stamp_of(alloc, &row.object)?))
     } else {
         Ok(Answer::Lost)
@@ -211,7 +220,7 @@ fn made_job(alloc: Global, name: &Text, job: &Job, body: Option<&Value>) -> Resu
         return Ok(Answer::Lost);
     };
     match read_job(alloc, value) {
-        Ok(row) => job_made(alloc, name, job, &row),
+        Ok(row) => job_made(alloc, name, job, hold_in(value).is_some(), &row),
         Err(Refusal::OutOfMemory) => Err(Refusal::OutOfMemory),
         Err(_) => Ok(Answer::Lost),
     }

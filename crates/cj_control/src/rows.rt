@@ -6,7 +6,7 @@ ghost use Rattle.cj_base.specs.declared.refusal.Refusal.TheVariants.{OutOfMemory
 ghost use Rattle.cj_fence.specs.declared.call.Call.{Call};
 ghost use Rattle.cj_fence.specs.Protocol.{May, advanced};
 ghost use Rattle.cj_control.specs.declared.rows.FencedSync.{FencedSync};
-ghost use Rattle.cj_control.specs.Syncs.{IsFree, IsOf, MayAsk, RowAsks, RowEnds, RowHears, Waits};
+ghost use Rattle.cj_control.specs.Syncs.{IsFree, IsOf, RowAsks, RowEnds, RowHears, RowMayAsk, Waits};
 
 use cj_base::{Refusal, Shared, Text};
 use cj_fence::{Answer, Call, Sync};
@@ -200,7 +200,7 @@ impl SyncRows {
 
     /// Whether a sync waits for no answer, and may ask this.
     pub fn may_ask(&self, number: u64, call: &Call) -> bool
-        ensures { IsTrue result ↔ MayAsk number call.now self.now }
+        ensures { IsTrue result ↔ RowMayAsk number call.now self.now }
     {
         match self.get(number) {
             Some(row) => row.may_ask(call),
@@ -212,7 +212,7 @@ impl SyncRows {
     /// memory is wanting, the sync is given up.
     #[tactic(auto, using(crate::proofs::RowLemmas::put_back))]
     pub fn ask(&mut self, number: u64, call: Shared<Call>, id: Option<u64>) -> Result<(), Refusal>
-        requires { MayAsk number call self.old }
+        requires { RowMayAsk number call self.old }
         ensures ok { OnOk result (RowAsks number call id self.old self.new) }
         ensures err { OnErr result (RowEnds number self.old self.new) }
         ensures memory { IfErr result (λ e. e ≡ OutOfMemory) }

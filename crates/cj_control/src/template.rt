@@ -9,7 +9,7 @@ use crate::api::ApiVersion;
 use crate::calls::CronParts;
 use crate::objects::{Head, read_head, spec};
 use crate::request::HeldBy;
-use cj_base::{Refusal, Text};
+use cj_base::{Refusal, Shared, Text};
 use serde_json::Value;
 use sha2::{Digest, Sha256};
 use std::alloc::Global;
@@ -68,7 +68,7 @@ pub fn parts_of(
         by,
         hold: by.hold(),
         head,
-        template: template.clone()?,
+        template: Shared::new(alloc, template.clone()?)?,
         mark: mark_of(alloc, text.as_str())?,
     }))
 }

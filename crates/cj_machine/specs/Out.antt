@@ -14,7 +14,7 @@ pub record Numbered : Type 0 where
 
 -- what a deed sends
 abbrev pub sent_by : Deed → Option Numbered
-sent_by (Sends y id call r) = Some (record { id = id; request = r })
+sent_by (Sends y id parts call r) = Some (record { id = id; request = r })
 sent_by (Reads id r) = Some (record { id = id; request = r })
 sent_by deed = None
 

@@ -213,6 +213,7 @@ fn pass_time(
     alloc: Global,
     now: u64,
 ) -> Result<(), Refusal> {
+    ledger.tick(now)?;
     driver.set_clock(alloc, now)?;
     driver.tell_clocks(alloc)?;
     end_stuck(ledger, driver, alloc)?;

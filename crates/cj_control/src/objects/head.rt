@@ -5,7 +5,7 @@ ghost use Rattle.cj_base.specs.declared.refusal.Refusal.TheVariants.{OutOfMemory
 ghost use Rattle.cj_control.specs.Objects.{head};
 
 use crate::objects::members::{meta, required_text};
-use cj_base::{Field, Refusal, Text};
+use cj_base::{Field, Refusal, Text, TryCopy};
 use serde_json::Value;
 use std::alloc::Global;
 
@@ -17,6 +17,17 @@ pub struct Head {
     pub uid: Text,
     /// `metadata.resourceVersion`.
     pub version: Text,
+}
+
+impl TryCopy for Head {
+    fn try_copy(&self, alloc: Global) -> Result<Head, Refusal> {
+        Ok(Head {
+            namespace: self.namespace.try_copy(alloc)?,
+            name: self.name.try_copy(alloc)?,
+            uid: self.uid.try_copy(alloc)?,
+            version: self.version.try_copy(alloc)?,
+        })
+    }
 }
 
 /// The head of an object, or its field at fault.

@@ -3,7 +3,7 @@ ghost use Rattle.std.specs.Prelude.{◌≡◌, ◌+◌, option_map};
 ghost use Rattle.serde_json.specs.View.{view, items_view};
 ghost use Rattle.cj_control.specs.Objects as seen;
 
-use crate::hold::hold_in;
+use crate::hold::is_held;
 use crate::objects::members::{annotation, is_text, list_of, meta, status, text_at};
 use cj_cluster::read_instant;
 use cj_fence::Policy;
@@ -16,7 +16,7 @@ pub struct JobMarks {
     pub time: u64,
     /// The policy under which it was made.
     pub policy: Policy,
-    /// Whether it says what holds it back.
+    /// Whether something holds it back.
     pub held: bool,
     pub finished: bool,
     /// Whether it has a deletionTimestamp.
@@ -85,7 +85,7 @@ pub(crate) fn marks_of(value: &Value) -> JobMarks
     JobMarks {
         time,
         policy: policy_mark(annotation(value, "cronsim/policy")),
-        held: hold_in(value).is_some(),
+        held: is_held(value),
         finished: has_ended(list_of(status(value, "conditions"))),
         deleting: meta(value, "deletionTimestamp").is_some(),
         pinned: has_items(list_of(meta(value, "finalizers"))),

@@ -4,14 +4,13 @@ use crate::machine::choice::Choice;
 use crate::machine::clearing::{list, tidy, to_clear};
 use crate::machine::making::{hold, make, name_taken, not_adopted};
 use crate::machine::planning::one_line_of;
-use crate::machine::reading::{job_row, take_cron, value_of};
+use crate::machine::reading::{job_row, key_of, take_cron, value_of};
 use crate::machine::starting::start;
 use crate::machine::task::{Again, Stage, Task};
 use crate::machine::view::View;
 use cj_base::{Refusal, TryCopy};
-use cj_control::{parts, read_cron};
+use cj_control::read_cron;
 use cj_fence::{Answer, At, Call, Job, Ref, Sync};
-use cj_types::Key;
 use std::alloc::Global;
 
 // The CronJob as lists and watches told it.
@@ -57,16 +56,6 @@ fn fresh(alloc: Global, view: &View<'_>, task: &mut Task) -> Result<Choice, Refu
     match view.mirror.cron(&task.key) {
         Some(text) => cached_cron(alloc, task, text, is_cut),
         None => Ok(Choice::End(Again::Never)),
-    }
-}
-
-// The key of NAMESPACE/NAME, where it is one.
-fn key_of(alloc: Global, full: &str) -> Result<Option<Key>, Refusal> {
-    let (namespace, name) = parts(full);
-    match Key::new(alloc, namespace, name) {
-        Ok(key) => Ok(Some(key)),
-        Err(Refusal::OutOfMemory) => Err(Refusal::OutOfMemory),
-        Err(_) => Ok(None),
     }
 }
 

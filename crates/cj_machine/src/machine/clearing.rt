@@ -1,6 +1,7 @@
 // The status without the dead, and the Jobs that go.
 use crate::machine::choice::Choice;
 use crate::machine::listing::{later_success, loses_success, rows_of};
+use crate::machine::reading::{has_unknown_hold, key_of, value_of};
 use crate::machine::task::{Again, Stage, Task};
 use crate::machine::view::{View, rank};
 use cj_base::{Refusal, Same, TryCopy};
@@ -75,12 +76,40 @@ fn is_surplus(task: &Task, job: &Ref) -> bool {
     }
 }
 
-// The first of the garbage, or else of the finished Jobs that the history limits let go.
-fn first_to_go<'a>(task: &Task, garbage: &'a [Ref], finished: &'a [Ref]) -> Option<&'a Ref> {
-    match garbage {
-        [first, ..] => Some(first),
-        [] => finished.iter().find(|job| is_surplus(task, job)),
+// Whether a Job is held in a way that this version doesn't know, as lists and watches told it.
+fn is_unknown(alloc: Global, view: &View<'_>, job: &Ref) -> Result<bool, Refusal> {
+    let Some(key) = key_of(alloc, job.name.as_str())? else {
+        return Ok(false);
+    };
+    let Some(text) = view.mirror.job(&key) else {
+        return Ok(false);
+    };
+    match value_of(alloc, text)? {
+        Some(value) => Ok(has_unknown_hold(&value)),
+        None => Ok(false),
     }
+}
+
+// The first of the garbage. A Job that is held in a way that this version doesn't know is left to a
+// newer one.
+fn first_garbage<'a>(
+    alloc: Global,
+    view: &View<'_>,
+    task: &mut Task,
+    garbage: &'a [Ref],
+) -> Result<Option<&'a Ref>, Refusal> {
+    for job in garbage {
+        if !is_unknown(alloc, view, job)? {
+            return Ok(Some(job));
+        }
+        task.left_job = Some(job.try_copy(alloc)?);
+    }
+    Ok(None)
+}
+
+// The first of the finished Jobs that the history limits let go.
+fn first_finished<'a>(task: &Task, finished: &'a [Ref]) -> Option<&'a Ref> {
+    finished.iter().find(|job| is_surplus(task, job))
 }
 
 // When the CronJob is due again; soon where a Job was to be made, and another one runs.
@@ -101,11 +130,12 @@ fn next(view: &View<'_>, task: &Task) -> Again {
 pub(crate) fn to_clear(
     alloc: Global,
     view: &View<'_>,
-    task: &Task,
+    task: &mut Task,
     garbage: &[Ref],
     finished: &[Ref],
 ) -> Result<Choice, Refusal> {
-    match first_to_go(task, garbage, finished) {
+    let first = first_garbage(alloc, view, task, garbage)?;
+    match first.or(first_finished(task, finished)) {
         Some(job) => Ok(Choice::Send(Call::Delete(job.try_copy(alloc)?))),
         None => Ok(Choice::End(next(view, task))),
     }

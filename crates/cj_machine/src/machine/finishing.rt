@@ -1,7 +1,9 @@
 // A sync ends, and its key waits for the next one.
 
 use crate::machine::driver::Driver;
-use crate::machine::lasting::{CLAIMED_WITHIN, say_conflict, say_missed, say_nameless, say_unmade};
+use crate::machine::lasting::{
+    CLAIMED_WITHIN, say_conflict, say_left_job, say_missed, say_nameless, say_unmade,
+};
 use crate::machine::memo::Memo;
 use crate::machine::saying::{say_held_back, say_left, say_why};
 use crate::machine::steps;
@@ -124,6 +126,7 @@ fn keep(driver: &mut Driver, alloc: Global, task: &mut Task, again: &Again) -> R
     let unmade = say_unmade(driver, alloc, task)?;
     let (due, missed) = say_missed(driver, alloc, task)?;
     let has_nameless = say_nameless(driver, alloc, task)?;
+    let left_job = say_left_job(driver, alloc, task)?;
     let conflicts = say_conflict(driver, alloc, task)?;
     let memo = Memo {
         waits: task.waits.take(),
@@ -133,6 +136,7 @@ fn keep(driver: &mut Driver, alloc: Global, task: &mut Task, again: &Again) -> R
         missed,
         unmade,
         has_nameless,
+        left_job,
         left,
         minute,
     };

@@ -2,8 +2,10 @@
 use crate::machine::choosing::is_conflict;
 use crate::machine::driver::Driver;
 use crate::machine::memo::Memo;
-use crate::machine::saying::{tell_conflict, tell_missed, tell_nameless, tell_unmade};
-use crate::machine::task::Task;
+use crate::machine::saying::{
+    tell_conflict, tell_left_job, tell_missed, tell_nameless, tell_unmade,
+};
+use crate::machine::task::{Stage, Task};
 use cj_base::{Refusal, Text, TryCopy};
 use std::alloc::Global;
 
@@ -118,4 +120,38 @@ pub(crate) fn say_nameless(
         tell_nameless(alloc, driver, task, task.nameless)?;
     }
     Ok(true)
+}
+
+// The uid of the Job of which people were told last that it is left to a newer version, until a
+// sync has listed the Jobs and left none.
+fn last_left_job(driver: &Driver, alloc: Global, task: &Task) -> Result<Option<Text>, Refusal> {
+    let Some(memo) = memo(driver, task) else {
+        return Ok(None);
+    };
+    match &memo.left_job {
+        Some(uid) if task.stage != Stage::Tidying => Ok(Some(uid.try_copy(alloc)?)),
+        _ => Ok(None),
+    }
+}
+
+/// Says of a Job that it is left to a newer version, once; its uid.
+pub(crate) fn say_left_job(
+    driver: &mut Driver,
+    alloc: Global,
+    task: &Task,
+) -> Result<Option<Text>, Refusal> {
+    let Some(job) = &task.left_job else {
+        return last_left_job(driver, alloc, task);
+    };
+    let was_told = match memo(driver, task) {
+        Some(memo) => match &memo.left_job {
+            Some(uid) => uid.as_str() == job.uid.as_str(),
+            None => false,
+        },
+        None => false,
+    };
+    if !was_told {
+        tell_left_job(alloc, driver, task, job.name.as_str())?;
+    }
+    Ok(Some(job.uid.try_copy(alloc)?))
 }

@@ -221,6 +221,19 @@ pub(crate) fn not_adopted(alloc: Global, task: &mut Task, at: &At) -> Result<Cho
     }
 }
 
+// Whether the Job that was found under the name may be claimed: it is of this time and template,
+// and a start can take its hold away. One with a hold that isn't known is left to a newer version.
+fn is_fit(alloc: Global, task: &mut Task, held: &Held) -> Result<bool, Refusal> {
+    let Some(found) = task.found else {
+        return Ok(false);
+    };
+    if !found.has_known_hold {
+        task.left_job = Some(held.job.try_copy(alloc)?);
+        return Ok(false);
+    }
+    Ok(found.has_mark && Some(held.found.time) == time_of(task))
+}
+
 /// A held Job is claimed; one that was made by another template is left alone.
 pub(crate) fn hold(
     alloc: Global,
@@ -230,11 +243,7 @@ pub(crate) fn hold(
     held: &Held,
 ) -> Result<Choice, Refusal> {
     let is_adopted = task.stage == Stage::Asking;
-    let has_mark = match task.found {
-        Some(found) => found.has_mark && Some(held.found.time) == time_of(task),
-        None => false,
-    };
-    if is_adopted && !has_mark {
+    if is_adopted && !is_fit(alloc, task, held)? {
         return other_name(alloc, task, at);
     }
     task.stage = Stage::Starting;

@@ -17,6 +17,8 @@ pub(crate) struct Memo {
     pub unmade: Option<(Text, u64)>,
     /// Whether people were told that references of `status.active` name no Job.
     pub has_nameless: bool,
+    /// The uid of the Job of which people were told that it is left to a newer version.
+    pub left_job: Option<Text>,
     /// The version of the CronJob of which it was told that it is left alone.
     pub left: Option<Text>,
     /// The minute since 1970 in which it was told last why no Job is started.
@@ -33,6 +35,7 @@ impl Drop for Memo {
             missed: _,
             unmade: _,
             has_nameless: _,
+            left_job: _,
             left: _,
             minute: _,
         } = self;
@@ -45,6 +48,7 @@ impl Memo {
         let has_told = self.unmade.is_some() || self.has_nameless;
         let has_times = self.due != 0 || self.missed != 0 || self.minute != 0;
         let has_to_do = self.waits.is_some() || self.is_live || self.conflicts != 0;
-        !has_told && !has_times && !has_to_do && self.left.is_none()
+        let has_left = self.left.is_some() || self.left_job.is_some();
+        !has_told && !has_times && !has_to_do && !has_left
     }
 }

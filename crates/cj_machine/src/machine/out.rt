@@ -22,9 +22,13 @@ fn deed_line(alloc: Global, deed: Deed) -> Result<Option<String>, Refusal>
     ensures err { IfErr result (λ e. e ≡ OutOfMemory) }
 {
     match deed {
-        Deed::Sends(_, id, _, request) => Ok(Some(line_text(alloc, id, request)?)),
+        Deed::Sends(_, id, _, _, request) => Ok(Some(line_text(alloc, id, request)?)),
         Deed::Reads(id, request) => Ok(Some(line_text(alloc, id, request)?)),
-        Deed::Begins(_, _) | Deed::Asks(_, _) | Deed::Hears(_, _) | Deed::Ends(_) => Ok(None),
+        Deed::Begins(_, _)
+        | Deed::Asks(_, _)
+        | Deed::Hears(_, _)
+        | Deed::Ends(_)
+        | Deed::Ticks(_) => Ok(None),
     }
 }
 

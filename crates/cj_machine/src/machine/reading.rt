@@ -1,8 +1,9 @@
 // What a sync reads of its CronJob and of Jobs.
 use crate::machine::task::{CronRead, FoundJob, Task};
-use cj_base::{Refusal, Text};
+use cj_base::{Refusal, Shared, Text};
 use cj_control::{
-    ApiVersion, CronParts, Head, HeldBy, annotation, is_text, meta, parts_of, read_job, spec,
+    ApiVersion, CronParts, Head, HeldBy, annotation, hold_in, is_held, is_text, meta, parts,
+    parts_of, read_job, spec,
 };
 use cj_fence::{Job, Row};
 use cj_types::Key;
@@ -35,7 +36,7 @@ pub(crate) fn parts_before(
             uid: Text::new(alloc, "")?,
             version: Text::new(alloc, "")?,
         },
-        template: Value::Null,
+        template: Shared::new(alloc, Value::Null)?,
         mark: Text::new(alloc, "")?,
     })
 }
@@ -79,6 +80,21 @@ pub(crate) fn job_row(alloc: Global, value: &Value) -> Result<Option<Row<Job>>, 
     }
 }
 
+/// The key of NAMESPACE/NAME, where it is one.
+pub(crate) fn key_of(alloc: Global, full: &str) -> Result<Option<Key>, Refusal> {
+    let (namespace, name) = parts(full);
+    match Key::new(alloc, namespace, name) {
+        Ok(key) => Ok(Some(key)),
+        Err(Refusal::OutOfMemory) => Err(Refusal::OutOfMemory),
+        Err(_) => Ok(None),
+    }
+}
+
+/// Whether a Job is held in a way that this version doesn't know, which a newer one wrote.
+pub(crate) fn has_unknown_hold(job: &Value) -> bool {
+    is_held(job) && hold_in(job).is_none()
+}
+
 /// What the Job under a name that was taken says, beside the CronJob's uid, its template's mark and
 /// the time that was to be made.
 pub(crate) fn found_job(
@@ -96,5 +112,6 @@ pub(crate) fn found_job(
         is_same: is_its && row.object.time == time,
         is_held: row.object.held,
         has_mark: is_text(parts.mark.as_str(), annotation(value, "cronsim/template")),
+        has_known_hold: !has_unknown_hold(value),
     }))
 }

@@ -326,6 +326,20 @@ pub(crate) fn tell_nameless(
     driver.warn(text)
 }
 
+/// Says of a Job that it is left to a newer version.
+pub(crate) fn tell_left_job(
+    alloc: Global,
+    driver: &mut Driver,
+    task: &Task,
+    job: &str,
+) -> Result<(), Refusal> {
+    let name = task.name.as_str();
+    let text = format!(in alloc;
+        "cronjob {name}: job {job} is held in a way that this version doesn't know: a newer version of cronsim is to start or remove it"
+    )?;
+    driver.warn(text)
+}
+
 fn text_in(alloc: Global, object: &Value, name: &str) -> Result<Text, Refusal> {
     match meta(object, name) {
         Some(found) => Text::new(alloc, found.as_str().unwrap_or("")),

@@ -9,6 +9,9 @@ use std::alloc::Global;
 /// How many seconds a claimed Job is left to the sync that claimed it.
 const HELP_AFTER: u64 = 3;
 
+/// After how many milliseconds a Job is looked at again that is left to a newer version.
+const LEFT_MS: u64 = 60_000;
+
 // Whether the starting deadline of a held Job has passed.
 fn is_late(at: &At, held: &Held, now: u64) -> bool {
     match at.cron.deadline {
@@ -25,7 +28,16 @@ fn since(task: &Task, held: &Held, now: u64) -> u64 {
     }
 }
 
-// A Job that another sync claimed is helped, once that one has had its time.
+// Whether a Job is held in a way that this version doesn't know.
+fn is_unknown(task: &Task, held: &Held) -> bool {
+    match &task.unknown_hold {
+        Some(uid) => uid.as_str() == held.job.uid.as_str(),
+        None => false,
+    }
+}
+
+// A Job that another sync claimed is helped, once that one has had its time. One that is held in a
+// way that this version doesn't know is left to a newer one.
 fn help(
     alloc: Global,
     view: &View<'_>,
@@ -34,6 +46,10 @@ fn help(
     held: &Held,
     drops: &[Ref],
 ) -> Result<Choice, Refusal> {
+    if is_unknown(task, held) {
+        task.left_job = Some(held.job.try_copy(alloc)?);
+        return Ok(Choice::End(Again::After(LEFT_MS)));
+    }
     let since = since(task, held, view.now);
     let from = since.saturating_add(HELP_AFTER);
     if view.now < from {
@@ -41,12 +57,14 @@ fn help(
         return Ok(Choice::End(Again::At(from)));
     }
     task.stage = Stage::Helping;
-    if is_late(at, held, view.now) {
+    // (where the clock was set back, all goes by a later moment than it says)
+    let moment = view.now.min(view.clock);
+    if is_late(at, held, moment) {
         let (job, version) = (
             held.job.try_copy(alloc)?,
             held.found.version.try_copy(alloc)?,
         );
-        return Ok(Choice::Send(Call::Expire(job, version, view.now)));
+        return Ok(Choice::Send(Call::Expire(job, version, moment)));
     }
     drop_or_start(alloc, held, drops)
 }

@@ -27,8 +27,8 @@ pub(crate) fn look(
     Ok(true)
 }
 
-/// A sync asks the API server; the number of the request, if there is one for the call and the
-/// protocol lets it.
+/// A sync asks the API server, by what its requests need; the number of the request, if there is
+/// one for the call and the protocol lets it.
 pub(crate) fn send(
     ledger: &mut Ledger,
     alloc: Global,
@@ -36,14 +36,15 @@ pub(crate) fn send(
     call: Call,
     parts: &CronParts,
 ) -> Result<Option<u64>, Refusal> {
-    let Some(request) = request_of(alloc, parts, &call)? else {
+    let parts = Shared::new(alloc, parts.try_copy(alloc)?)?;
+    let Some(request) = request_of(alloc, parts.get(), &call)? else {
         return Ok(None);
     };
     let call = Shared::new(alloc, call)?;
     if !ledger.has_number() || !ledger.may_ask(number, call.get()) {
         return Ok(None);
     }
-    Ok(Some(ledger.send(number, call, request)?))
+    Ok(Some(ledger.send(number, parts, call, request)?))
 }
 
 /// What is at a path is read, for no sync; the number of the request.

@@ -3,7 +3,7 @@
 use crate::machine::driver::Driver;
 use crate::machine::finishing::{finish_key, settle};
 use crate::machine::others::take_listed;
-use crate::machine::reading::{found_job, parts_before, take_cron};
+use crate::machine::reading::{found_job, has_unknown_hold, parts_before, take_cron};
 use crate::machine::saying::{
     note_unmade, say_deleted, say_refused, say_started, say_unlisted, say_unread_list,
 };
@@ -11,7 +11,7 @@ use crate::machine::steps;
 use crate::machine::task::{Again, Stage, Task};
 use crate::machine::walking::{Went, walk};
 use cj_base::{Refusal, Text, TryCopy};
-use cj_control::{HeldBy, Ledger, Line, LineKind, full_name, hold_in};
+use cj_control::{HeldBy, Ledger, Line, LineKind, full_name, hold_in, meta};
 use cj_fence::{Call, Sync};
 use cj_manifest::present;
 use cj_types::Key;
@@ -51,6 +51,8 @@ fn task_of(alloc: Global, driver: &Driver, key: Key, by: HeldBy) -> Result<Task,
         listed: None,
         is_held_back: false,
         waits,
+        unknown_hold: None,
+        left_job: None,
         wants: None,
         refused: None,
         asked_at: driver.local(),
@@ -148,10 +150,7 @@ fn note(
     match call {
         Call::GetCron(_) if task.status == 200 => note_cron(alloc, task, body),
         Call::GetJob(_) if task.stage == Stage::Asking => note_job(alloc, task, body),
-        Call::GetJob(_) if task.status == 200 => {
-            note_hold(task, body);
-            Ok(())
-        }
+        Call::GetJob(_) if task.status == 200 => note_hold(alloc, task, body),
         Call::Create(_, _) if is_unmade(ledger, task) => note_unmade(alloc, task, body),
         Call::Claim(_) if task.status == 200 => {
             task.has_claimed = is_claimed(ledger, task);
@@ -212,19 +211,27 @@ fn note_cron(alloc: Global, task: &mut Task, body: Option<&Value>) -> Result<(),
     Ok(())
 }
 
-// What holds the Job that was read is what its start takes away.
-fn note_hold(task: &mut Task, body: Option<&Value>) {
-    let hold = match body {
-        Some(body) => hold_in(body),
-        None => None,
+// The uid of an object.
+fn uid_of(alloc: Global, object: &Value) -> Result<Text, Refusal> {
+    let uid = meta(object, "uid").and_then(Value::as_str);
+    Text::new(alloc, uid.unwrap_or(""))
+}
+
+// What holds the Job that was read is what its start takes away, if that is known.
+fn note_hold(alloc: Global, task: &mut Task, body: Option<&Value>) -> Result<(), Refusal> {
+    let Some(body) = body else {
+        return Ok(());
     };
-    if let Some(hold) = hold {
+    if let Some(hold) = hold_in(body) {
         task.parts.hold = hold;
+    } else if has_unknown_hold(body) {
+        task.unknown_hold = Some(uid_of(alloc, body)?);
     }
+    Ok(())
 }
 
 fn note_job(alloc: Global, task: &mut Task, body: Option<&Value>) -> Result<(), Refusal> {
-    note_hold(task, body);
+    note_hold(alloc, task, body)?;
     let time = match &task.plan {
         Some(plan) => plan.time,
         None => None,

@@ -1,7 +1,7 @@
 // The errand of a sync: what it is at, beside what the protocol knows of it.
 use cj_base::Text;
 use cj_control::CronParts;
-use cj_fence::{Job, Row};
+use cj_fence::{Job, Ref, Row};
 use cj_types::{Key, Reason};
 
 /// What a sync is at.
@@ -95,6 +95,8 @@ pub(crate) struct FoundJob {
     pub is_held: bool,
     /// Whether it was made by the same template.
     pub has_mark: bool,
+    /// Whether it isn't held in a way that this version doesn't know.
+    pub has_known_hold: bool,
 }
 
 /// A sync under way.
@@ -140,6 +142,11 @@ pub(crate) struct Task {
     pub is_held_back: bool,
     /// The Job that waits to be helped, and since when.
     pub waits: Option<(Text, u64)>,
+    /// The uid of the Job that was read last of those that are held in a way that this version
+    /// doesn't know.
+    pub unknown_hold: Option<Text>,
+    /// Such a Job that is left to a newer version.
+    pub left_job: Option<Ref>,
     /// A zone that is wanted.
     pub wants: Option<Text>,
     /// Why the CronJob is left alone: the reason of an Event, and words.
@@ -174,6 +181,8 @@ impl Drop for Task {
             listed,
             is_held_back: _,
             waits: _,
+            unknown_hold: _,
+            left_job: _,
             wants: _,
             refused: _,
             asked_at: _,

@@ -13,8 +13,10 @@ pub(crate) struct View<'a> {
     /// The zones that were wanted once.
     pub known: &'a [Text],
     pub options: &'a ControlOptions,
-    /// The clock, in seconds since 1970.
+    /// The moment by which Jobs are due, in seconds since 1970.
     pub now: u64,
+    /// What this machine's clock said last.
+    pub clock: u64,
     /// What keeps a held Job from running.
     pub by: HeldBy,
 }

@@ -27,13 +27,14 @@ pub(crate) enum Went {
     Over(Again),
 }
 
-// What a sync does next.
+// What a sync does next, where the clock said this last.
 fn next_of(
     alloc: Global,
     driver: &Driver,
     zones: &ZoneTable,
     task: &mut Task,
     sync: &Sync,
+    clock: u64,
 ) -> Result<Choice, Refusal> {
     let Some(by) = driver.by else {
         return Ok(Choice::End(Again::Failed));
@@ -44,6 +45,7 @@ fn next_of(
         known: driver.known.as_slice(),
         options: &driver.options,
         now: driver.now(),
+        clock,
         by,
     };
     choose(alloc, &view, task, sync)
@@ -99,7 +101,7 @@ fn walk_on(
     task: &mut Task,
 ) -> Result<Went, Refusal> {
     let choice = match ledger.get(task.number) {
-        Some(row) => next_of(alloc, driver, zones, task, &row.sync)?,
+        Some(row) => next_of(alloc, driver, zones, task, &row.sync, ledger.clock())?,
         None => Choice::End(Again::Failed),
     };
     match choice {
