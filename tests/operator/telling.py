@@ -7,7 +7,7 @@ from server import stamp
 from stage import POD, Stage
 
 LINE = re.compile(r"(\d{4}-\d\d-\d\dT\d\d:\d\d:\d\dZ) (info|warning|error) (.*)")
-MEMBERS = "syncs starts conflicts refusedCreates missed cronJobs jobs underWay synced ready "
+MEMBERS = "syncs starts conflicts refusedCreates missed queued cronJobs jobs underWay synced ready "
 MEMBERS += "whyNotReady healthy whyNotHealthy watchAges lastStart clockOffset delay"
 
 
@@ -36,7 +36,8 @@ def metrics():
     yield "its members", sorted(found), sorted(MEMBERS.split())
     yield "starts", found.get("starts"), 6
     yield "conflicts", found.get("conflicts"), 1
-    counts = {"cronJobs": 3, "jobs": 6, "missed": 0, "refusedCreates": 0, "underWay": 0}
+    counts = {"cronJobs": 3, "jobs": 6, "missed": 0, "queued": 0, "refusedCreates": 0}
+    counts["underWay"] = 0
     yield "counts", {it: found.get(it) for it in counts}, counts
     yield "its state", [found.get(it) for it in ("synced", "ready", "healthy")], [True] * 3
     yield "syncs", (found.get("syncs") or 0) >= 6, True

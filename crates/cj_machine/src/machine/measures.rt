@@ -108,19 +108,21 @@ const COUNTS: &[&str] = &[
     "cronJobs",
     "jobs",
     "missed",
+    "queued",
     "refusedCreates",
     "starts",
     "syncs",
     "underWay",
 ];
 
-fn counts(driver: &Driver) -> [Value; 8] {
+fn counts(driver: &Driver) -> [Value; 9] {
     let (numbers, mirror) = (&driver.numbers, driver.feeds.mirror());
     [
         number(numbers.conflicts),
         number(mirror.cron_count()),
         number(mirror.job_count()),
         number(numbers.missed),
+        number(driver.queue.len() as u64),
         number(numbers.refused_creates),
         number(numbers.starts),
         number(numbers.syncs),
