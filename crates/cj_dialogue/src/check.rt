@@ -1,5 +1,5 @@
 // Checking a transcript.
-use crate::entries::read_entry;
+use crate::entries::{FORM, read_entry};
 use crate::verdict::{Repeated, Verdict};
 use cj_args::{ControlRequest, VERSION};
 use cj_io::{ExitStatus, Failure, Kept, LineReader, Taken, write_and_flush};
@@ -21,6 +21,8 @@ enum Ending {
     Differs,
     // To a line that is no line of a transcript.
     Refused,
+    // To the first line, which says that the form is newer.
+    Newer(u64),
 }
 
 // Prints what differs.
@@ -58,6 +60,7 @@ fn compare<W: Write>(
         Verdict::Agrees => Ok(None),
         Verdict::Over => Ok(Some(Ending::Over)),
         Verdict::Misplaced => Ok(Some(Ending::Refused)),
+        Verdict::Newer(form) => Ok(Some(Ending::Newer(form))),
         Verdict::Differs(done) => {
             print_difference(alloc, number, line, done, out)?;
             Ok(Some(Ending::Differs))
@@ -119,6 +122,14 @@ fn tell_refused<E: Write>(
     write_and_flush(err, text.as_bytes())
 }
 
+// Says that a transcript is of a newer form.
+fn tell_newer<E: Write>(alloc: Global, form: u64, err: &mut E) -> Result<(), Failure> {
+    let text = format!(in alloc;
+        "cronsim: the transcript is of version {form}, and this cronsim reads up to version {FORM}\n"
+    )?;
+    write_and_flush(err, text.as_bytes())
+}
+
 // Says of a transcript that another version wrote it.
 fn tell_version<E: Write>(alloc: Global, repeated: &Repeated, err: &mut E) -> Result<(), Failure> {
     let Some(version) = &repeated.version else {
@@ -135,7 +146,8 @@ fn tell_version<E: Write>(alloc: Global, repeated: &Repeated, err: &mut E) -> Re
 /// compares the requests with those of the transcript.
 ///
 /// `Success` where they are the same, to the end or to where the transcript is cut off; `Refused`
-/// where a line differs, which is printed, or is no line of a transcript, which is said.
+/// where a line differs, which is printed, or is no line of a transcript, or the transcript is of a
+/// newer form, which is said.
 pub fn check_transcript<R: Read, W: Write, E: Write>(
     alloc: Global,
     control: &ControlRequest<'_>,
@@ -149,6 +161,7 @@ pub fn check_transcript<R: Read, W: Write, E: Write>(
     tell_version(alloc, &repeated, err)?;
     match ending {
         Ending::Refused => tell_refused(alloc, control, number, err)?,
+        Ending::Newer(form) => tell_newer(alloc, form, err)?,
         Ending::Differs => {}
         Ending::Over => print_agreement(alloc, &repeated, out)?,
         Ending::CutOff => {
@@ -161,6 +174,6 @@ pub fn check_transcript<R: Read, W: Write, E: Write>(
     }
     match ending {
         Ending::Over | Ending::CutOff => Ok(ExitStatus::Success),
-        Ending::Differs | Ending::Refused => Ok(ExitStatus::Refused),
+        Ending::Differs | Ending::Refused | Ending::Newer(_) => Ok(ExitStatus::Refused),
     }
 }

@@ -7,11 +7,16 @@ use cj_machine::ControlOptions;
 use serde_json::{Value, json};
 use std::alloc::Global;
 
+/// The version of the form of transcripts. One without a version is of the first.
+pub const FORM: u64 = 1;
+
 /// What a line of a transcript says.
 #[derive(Drop)]
 pub enum Entry {
     /// It begins: the version of the program, and what the controller was told.
     Start(Text, ControlOptions),
+    /// It begins, in a form of this version, which is newer than what this program reads.
+    Newer(u64),
     /// This came in.
     In(Vec<u8>),
     /// This went out.
@@ -69,7 +74,7 @@ pub fn push_start(
     options: &ControlOptions,
 ) -> Result<(), Failure> {
     let options = options_value(alloc, options)?;
-    let value = json!(in alloc; {"cronsim": VERSION, "options": options})?;
+    let value = json!(in alloc; {"cronsim": VERSION, "options": options, "transcript": FORM})?;
     push_value(alloc, text, &value)
 }
 
@@ -131,7 +136,20 @@ fn read_zone(alloc: Global, name: &str, value: &Value) -> Result<Option<Entry>, 
     }
 }
 
+// The version of the form of a transcript, by its first line.
+fn form_of(value: &Value) -> Option<u64> {
+    match value.get("transcript") {
+        Some(form) => form.as_u64(),
+        None => Some(1),
+    }
+}
+
 fn read_start(alloc: Global, version: &str, value: &Value) -> Result<Option<Entry>, Failure> {
+    match form_of(value) {
+        Some(form) if form > FORM => return Ok(Some(Entry::Newer(form))),
+        Some(form) if form > 0 => {}
+        _ => return Ok(None),
+    }
     let Some(options) = value.get("options") else {
         return Ok(None);
     };

@@ -18,6 +18,8 @@ pub enum Verdict {
     Differs(Option<String>),
     /// The line has no place there.
     Misplaced,
+    /// The transcript is of a form of this version, which is newer than what this program reads.
+    Newer(u64),
 }
 
 /// This program, as it does again what a transcript has.
@@ -145,6 +147,8 @@ impl Repeated {
     pub fn take(&mut self, entry: Entry) -> Result<Verdict, Failure> {
         match entry {
             Entry::Start(version, options) => self.begin(version, options),
+            Entry::Newer(_) if self.machine.is_some() => Ok(Verdict::Misplaced),
+            Entry::Newer(form) => Ok(Verdict::Newer(form)),
             Entry::In(line) => self.hear(line.as_slice()),
             Entry::Out(line) => self.send(line.as_slice()),
             Entry::Zone(name, file) => match file {
