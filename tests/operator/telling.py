@@ -104,4 +104,15 @@ def dry_run():
         yield f"{field}: it is told", len(told), 1
 
 
-CASES = (metrics, levels, levels_of_trouble, as_json, dry_run)
+def passed_by():
+    """Due times before the one that gets a Job are counted in a line, once."""
+    stage = Stage()
+    stage.cron("a")
+    stage.has_status("a", lastScheduleTime="2023-12-31T23:55:00Z")
+    stage.run(130)
+    words = "cronjob n/a: due times passed by since 2023-12-31T23:55:00Z: 4; "
+    words += "only the latest, 2024-01-01T00:00:00Z, gets a job"
+    yield "told once", [it for it in stage.said() if "passed by" in it], [words]
+
+
+CASES = (metrics, levels, levels_of_trouble, as_json, dry_run, passed_by)

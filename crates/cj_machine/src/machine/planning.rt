@@ -13,8 +13,10 @@ use cj_base::{Field, FieldFaults, Refusal, Seconds, Text};
 use cj_cluster::{Cluster, ClusterCron, ItemNotes, ListFault, Said, read_cluster};
 use cj_control::{list_of, spec};
 use cj_decide::{JobRefs, Plan, Steps, decide};
+use cj_due::{Missed, missed};
 use cj_explain::explain_faults;
 use cj_manifest::present;
+use cj_schedule::Schedule;
 use cj_types::{Key, Reason, Shared, TryCopy};
 use cj_why::{found, listed};
 use cj_zone::{Zone, ZoneTable};
@@ -103,8 +105,26 @@ fn names(alloc: Global, jobs: &JobRefs) -> Result<Vec<Text>, Refusal> {
     Ok(names)
 }
 
-fn planned(alloc: Global, steps: &Steps) -> Result<Planned, Refusal> {
+// How many times after the last schedule time were missed beside the latest; 0 where they are more
+// than 100, of which an Event tells.
+fn passed_of(plan: &Plan) -> u64 {
+    let (Some(cron), Some(zone)) = (plan.cron(), plan.zone()) else {
+        return 0;
+    };
+    let cron = cron.get();
+    let Ok(schedule) = Schedule::parse(cron.spec.schedule.as_str()) else {
+        return 0;
+    };
+    let since = cron.status.last_schedule_time.unwrap_or(cron.meta.created);
+    match missed(&schedule, zone.get(), since, plan.moment()) {
+        Missed::Some { count, .. } => u64::from(count).saturating_sub(1),
+        _ => 0,
+    }
+}
+
+fn planned(alloc: Global, steps: &Steps, passed: u64) -> Result<Planned, Refusal> {
     Ok(Planned {
+        passed,
         time: match &steps.claim {
             Some(claim) => Some(claim.time.get()),
             None => None,
@@ -176,5 +196,5 @@ pub(crate) fn plan(
         return refused(alloc, list, &read.notes);
     };
     let plan = plan_of(alloc, zones, &read.cluster, cron.get(), now)?;
-    Ok(Decided::Plan(planned(alloc, plan.steps())?))
+    Ok(Decided::Plan(planned(alloc, plan.steps(), passed_of(&plan))?))
 }

@@ -2,7 +2,7 @@
 use crate::machine::driver::Driver;
 use crate::machine::events::{EventNote, event_of, note_event, push_event};
 use crate::machine::task::Task;
-use cj_base::{Refusal, Seconds, Text};
+use cj_base::{Refusal, Seconds, Text, both};
 use cj_control::{meta, parts, text_at};
 use cj_fence::Call;
 use cj_types::{Key, Reason};
@@ -82,6 +82,24 @@ pub(crate) fn say_started(
     let (_, short) = parts(job);
     let message = format!(in alloc; "Created job {short}")?;
     note_event(alloc, driver, task, "SuccessfulCreate", false, message)
+}
+
+/// Says how many due times before the one that was claimed get no Job.
+pub(crate) fn say_passed(alloc: Global, driver: &mut Driver, task: &Task) -> Result<(), Refusal> {
+    let (Some(plan), true) = (&task.plan, task.has_claimed) else {
+        return Ok(());
+    };
+    if plan.passed == 0 {
+        return Ok(());
+    }
+    let (since, latest) = both(time(alloc, task.last), time(alloc, task.due))?;
+    let (name, count) = (task.name.as_str(), plan.passed);
+    let since = if task.last == 0 { "its creation" } else { since.as_str() };
+    let latest = latest.as_str();
+    let text = format!(in alloc;
+        "cronjob {name}: due times passed by since {since}: {count}; only the latest, {latest}, gets a job"
+    )?;
+    driver.warn(text)
 }
 
 /// Says that a Job was deleted, for this reason.

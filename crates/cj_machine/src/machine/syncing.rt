@@ -5,7 +5,7 @@ use crate::machine::finishing::{finish_key, settle};
 use crate::machine::others::take_listed;
 use crate::machine::reading::{found_job, has_unknown_hold, parts_before, take_cron};
 use crate::machine::saying::{
-    note_unmade, say_deleted, say_refused, say_started, say_unlisted, say_unread_list,
+    note_unmade, say_deleted, say_passed, say_refused, say_started, say_unlisted, say_unread_list,
 };
 use crate::machine::steps;
 use crate::machine::task::{Again, Stage, Task};
@@ -154,7 +154,7 @@ fn note(
         Call::Create(_, _) if is_unmade(ledger, task) => note_unmade(alloc, task, body),
         Call::Claim(_) if task.status == 200 => {
             task.has_claimed = is_claimed(ledger, task);
-            Ok(())
+            say_passed(alloc, driver, task)
         }
         Call::Start(job) if task.status == 200 && goes_on(ledger, task) => {
             say_started(alloc, driver, task, job.name.as_str())

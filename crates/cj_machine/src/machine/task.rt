@@ -67,6 +67,8 @@ impl Drop for CronRead {
 pub(crate) struct Planned {
     /// The time that a Job is to be started for.
     pub time: Option<u64>,
+    /// How many times before it, since the last schedule time, get no Job; 0 if more than 100.
+    pub passed: u64,
     /// The names of the Jobs that the history limits let go.
     pub surplus: Vec<Text>,
     /// When a sync is due again.
@@ -79,6 +81,7 @@ impl Drop for Planned {
     fn drop(self) {
         let Planned {
             time: _,
+            passed: _,
             surplus: _,
             next: _,
             reason: _,
