@@ -1,4 +1,6 @@
 pub mod Checked
+pub mod CrontabLines
+pub mod CrontabWords
 pub mod ItemAnswers
 pub mod ItemData
 pub mod Scenes

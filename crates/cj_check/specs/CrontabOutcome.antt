@@ -1,5 +1,5 @@
 -- What `crontab` answers.
-use Rattle.std.specs.Prelude.{◌≡◌, ◌⊎◌, ℕ, List, Bool, true, false, codes, All}
+use Rattle.std.specs.Prelude.{◌≡◌, ◌⊎◌, ℕ, List, Bool, true, false, Option, IfSome, codes}
 use Rattle.std.specs.List.{list_any}
 use Rattle.cj_args.specs.declared.crontab.CrontabRequest.{CrontabRequest}
 use Rattle.cj_answers.specs.Given.{pair_words}
@@ -8,7 +8,7 @@ use Rattle.cj_answers.specs.Outcome.{Outcome, explained, refusal}
 use Rattle.cj_answers.specs.as_json.Forms.{form_words}
 use Rattle.cj_answers.specs.declared.answer.Ending.{Ending}
 use Rattle.cj_answers.specs.declared.answer.Ending.TheVariants.{Done, Refused}
-use Rattle.cj_check.specs.Crontab.{IsEntry, is_refused}
+use Rattle.cj_check.specs.Crontab.{AreEntries, is_refused}
 use Rattle.cj_check.specs.declared.crontab.entries.Entry.{Entry}
 
 -- one refused line refuses the crontab
@@ -31,9 +31,9 @@ long_words = codes "FILE: its manifests are more than 16,777,216 bytes, the most
 
 -- the lines of the crontab were read, and one of them that is refused refuses it
 -- rule: crontab-status
-pub record IsCrontabRead (o : Outcome) : Type 0 where
+pub record IsCrontabRead (bytes : List ℕ) (o : Outcome) : Type 0 where
   pub entries : List Entry
-  pub are : All IsEntry entries
+  pub are : AreEntries bytes entries
   pub ending : o.ending ≡ ending_by (list_any is_refused entries)
 
 -- the words are refused, for the first of these causes
@@ -48,7 +48,18 @@ IsCrontabRefused r o =
     ⊎ (o ≡ explained r.explain crontab_zone_words (refusal (codes "cronsim: zone\n")))
     ⊎ (o ≡ explained r.explain long_words (refusal (codes "cronsim: output\n")))
 
--- what `crontab` answers
+-- what the bytes of a crontab are answered; its manifests may be too long
 -- rule: crontab-status
-abbrev pub IsCrontabOutcome : CrontabRequest → Outcome → Type 0
-IsCrontabOutcome r o = IsCrontabRefused r o ⊎ IsCrontabRead o
+abbrev pub IsBytesOutcome : CrontabRequest → List ℕ → Outcome → Type 0
+IsBytesOutcome r bytes o = IsCrontabRefused r o ⊎ IsCrontabRead bytes o
+
+-- all of the input is read
+pub record ReadsCrontab (r : CrontabRequest) (input : Option (List ℕ)) (o : Outcome) : Type 0 where
+  pub bytes : List ℕ
+  pub bytes_are : IfSome input (λ xs. bytes ≡ xs)
+  pub answer : IsBytesOutcome r bytes o
+
+-- what `crontab` answers, where the input is known
+-- rule: crontab-status
+abbrev pub IsCrontabOutcome : CrontabRequest → Option (List ℕ) → Outcome → Type 0
+IsCrontabOutcome r input o = IsCrontabRefused r o ⊎ ReadsCrontab r input o

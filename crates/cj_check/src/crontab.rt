@@ -13,6 +13,7 @@ mod lines;
 mod manifest;
 mod names;
 mod notes;
+mod pieces;
 mod setting;
 mod shell;
 mod sunday;

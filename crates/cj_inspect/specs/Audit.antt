@@ -20,10 +20,9 @@ use Rattle.cj_answers.specs.Given.{AreGiven, IsNoneGiven, pair_words}
 use Rattle.cj_answers.specs.Moments.{asked_moment, moment_words}
 use Rattle.cj_answers.specs.Outcome.{IsInForm, Outcome, RefusesForm, explained, refusal}
 use Rattle.cj_inspect.specs.Narrowing.{IsPart, is_everything}
-use Rattle.cj_inspect.specs.Nights.{TellsNights}
+use Rattle.cj_inspect.specs.Nights.{TellsNights, look_of}
 use Rattle.cj_inspect.specs.Report.{asked_since}
 use Rattle.cj_inspect.specs.Why.{IsNoticed, has_home, is_nothing, unknown_lines}
-use Rattle.cj_inspect.specs.declared.nights.look.Look.{Look}
 use Rattle.cj_inspect.specs.as_json.Audit.{IsAuditShown}
 use Rattle.cj_answers.specs.as_json.Forms.{is_json}
 
@@ -110,26 +109,25 @@ unknown_of r list =
 
 -- of a list, in a picture or else as JSON or in lines, with what clocks do
 -- rule: clock-nights
-pub record AuditsList (r : AuditRequest) (zones : List Zone) (since : Option ℕ) (list : ClusterList)
-    (o : Outcome) : Type 0 where
+pub record AuditsList (r : AuditRequest) (zones : List Zone) (since now : Option ℕ)
+    (list : ClusterList) (o : Outcome) : Type 0 where
   pub all : List Finding
   pub found : IsAudit zones list.cluster list.notes all
   pub printed : List ℕ
   pub prints : IsAuditShown r.svg (is_json r.output.now) list (seen since all) printed
-  pub look : Look
-  pub nights : TellsNights r.explain zones look
+  pub nights : TellsNights r.explain zones (look_of list.cluster since now)
       (map_list (λ c. c.cron) (map.values list.cluster.crons))
       (explained r.explain (words_of list (seen since all)) (audited list (seen since all) printed))
       o
 
 -- of the part of a list that is asked about, with what is told beside it
 -- rules: audit-named, why-named
-pub record AuditsWhole (r : AuditRequest) (zones : List Zone) (since : Option ℕ)
+pub record AuditsWhole (r : AuditRequest) (zones : List Zone) (since now : Option ℕ)
     (whole : ClusterList) (o : Outcome) : Type 0 where
   pub list : ClusterList
   pub part : IsPart (is_everything (within_of r) r.crons.items) whole list
   pub base : Outcome
-  pub audits : AuditsList r zones since list base
+  pub audits : AuditsList r zones since now list base
   pub notices : IsNoticed (has_home (within_of r) whole) false base o
 
 -- one of those that are named is unknown, as these lines say
@@ -139,27 +137,28 @@ pub record RefusesAuditCron (r : AuditRequest) (unknown : List ℕ) (o : Outcome
   pub answer : o ≡ explained r.explain unknown (refusal (codes "cronsim: cron\n"))
 
 -- they are all there
-pub record AuditsKnown (r : AuditRequest) (zones : List Zone) (since : Option ℕ)
+pub record AuditsKnown (r : AuditRequest) (zones : List Zone) (since now : Option ℕ)
     (whole : ClusterList) (unknown : List ℕ) (o : Outcome) : Type 0 where
   pub known : is_nothing unknown ≡ true
-  pub audits : AuditsWhole r zones since whole o
+  pub audits : AuditsWhole r zones since now whole o
 
-abbrev pub IsWholeAudited : AuditRequest → List Zone → Option ℕ → ClusterList → Outcome → Type 0
-IsWholeAudited r zones since whole o =
+abbrev pub IsWholeAudited : AuditRequest → List Zone → Option ℕ → Option ℕ → ClusterList → Outcome
+    → Type 0
+IsWholeAudited r zones since now whole o =
     RefusesAuditCron r (unknown_of r whole) o
-    ⊎ AuditsKnown r zones since whole (unknown_of r whole) o
+    ⊎ AuditsKnown r zones since now whole (unknown_of r whole) o
 
 -- of a list that was read
-pub record AuditsRead (r : AuditRequest) (zones : List Zone) (since : Option ℕ) (bytes : List ℕ)
-    (o : Outcome) : Type 0 where
+pub record AuditsRead (r : AuditRequest) (zones : List Zone) (since now : Option ℕ)
+    (bytes : List ℕ) (o : Outcome) : Type 0 where
   pub whole : ClusterList
   pub read : IsClusterList zones bytes whole
-  pub audited_is : IsWholeAudited r zones since whole o
+  pub audited_is : IsWholeAudited r zones since now whole o
 
 -- what the bytes of a list are answered
-abbrev pub IsAuditedOf : AuditRequest → List Zone → Option ℕ → List ℕ → Outcome → Type 0
-IsAuditedOf r zones since bytes o =
-    RefusesList r.explain bytes o ⊎ AuditsRead r zones since bytes o
+abbrev pub IsAuditedOf : AuditRequest → List Zone → Option ℕ → Option ℕ → List ℕ → Outcome → Type 0
+IsAuditedOf r zones since now bytes o =
+    RefusesList r.explain bytes o ⊎ AuditsRead r zones since now bytes o
 
 -- the moment is refused first
 pub record RefusesAuditMoment (r : AuditRequest) (o : Outcome) : Type 0 where
@@ -190,7 +189,7 @@ pub record AuditsInput (r : AuditRequest) (files : List ZoneFile) (input : Optio
   pub bytes : List ℕ
   pub bytes_are : IfSome input (λ xs. bytes ≡ xs)
   pub fits : length bytes ≤ 268_435_456
-  pub audited_is : IsAuditedOf r zones since bytes o
+  pub audited_is : IsAuditedOf r zones since now bytes o
 
 -- what `audit` answers in a form that there is, where the input is known
 -- rules: audit-json, audit-lines

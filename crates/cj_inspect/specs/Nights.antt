@@ -5,7 +5,11 @@ use Rattle.serde_json.specs.View.{items_of}
 use Rattle.cj_base.specs.Instant.{last_second}
 use Rattle.cj_schedule.specs.Grammar.{IsSchedule}
 use Rattle.cj_schedule.specs.Matches.{Sets}
+use Rattle.std.specs.FinMap as map
+use Rattle.cj_cluster.specs.declared.cluster.Cluster.{Cluster}
+use Rattle.cj_cluster.specs.declared.cluster.ClusterCron.{ClusterCron}
 use Rattle.cj_types.specs.declared.cron.CronJob.{CronJob}
+use Rattle.cj_types.specs.declared.job.Job.{Job}
 use Rattle.cj_zone.specs.declared.zone.Zone.{Zone}
 use Rattle.cj_zone.specs.Zones.{utc_zone, zone_named}
 use Rattle.cj_upcoming.specs.Changes.{changes}
@@ -44,6 +48,45 @@ abbrev pub look_last : Look → CronJob → ℕ
 look_last (By.Within after last) c = last
 look_last (By.Ahead after last) c = if c.spec.suspend then after else last
 look_last (By.Around now) c = around_last now
+
+-- the least and the greatest of instants, with one instant more
+abbrev pub widened : Option (ℕ × ℕ) → ℕ → Option (ℕ × ℕ)
+widened None t = Some (t, t)
+widened (Some b) t = Some (min b.0 t, max b.1 t)
+
+abbrev pub widened_by : Option (ℕ × ℕ) → Option ℕ → Option (ℕ × ℕ)
+widened_by b None = b
+widened_by b (Some t) = widened b t
+
+-- with the instants at which Jobs were created
+-- rule: clock-nights
+abbrev pub with_jobs : Option (ℕ × ℕ) → List Job → Option (ℕ × ℕ)
+with_jobs b [] = b
+with_jobs b (j ∷ js) = with_jobs (widened b j.meta.created) js
+
+-- with those at which CronJobs were last due
+-- rule: clock-nights
+abbrev pub with_crons : Option (ℕ × ℕ) → List ClusterCron → Option (ℕ × ℕ)
+with_crons b [] = b
+with_crons b (c ∷ cs) = with_crons (widened_by b c.cron.status.last_schedule_time) cs
+
+-- the instants of which a cluster tells
+-- rule: clock-nights
+abbrev pub bounds_of : Cluster → Option (ℕ × ℕ)
+bounds_of c = with_crons (with_jobs None (map.values c.jobs)) (map.values c.crons)
+
+-- from the first instant up to a day behind the last; but from then on, and up to then, where
+-- people say so
+-- rule: clock-nights
+abbrev pub look_in : Option (ℕ × ℕ) → Option ℕ → Option ℕ → Look
+look_in bounds since now =
+    By.Within (unwrap_or since (min (unwrap_or bounds (0, 0)).0 last_second))
+    (unwrap_or now (min ((unwrap_or bounds (0, 0)).1 + 86_400) last_second))
+
+-- which changes of clocks `audit` tells of
+-- rule: clock-nights
+abbrev pub look_of : Cluster → Option ℕ → Option ℕ → Look
+look_of c since now = look_in (bounds_of c) since now
 
 -- ---- what clocks do
 

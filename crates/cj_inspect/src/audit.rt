@@ -259,7 +259,7 @@ fn list_audited(
     now: Option<Seconds>,
     list: &ClusterList,
 ) -> Result<Answer, Failure>
-    ensures { IfOk result (λ a. AuditsList audit_of.now (zones_of zones.now) since list.now
+    ensures { IfOk result (λ a. AuditsList audit_of.now (zones_of zones.now) since now list.now
         (outcome_of a)) }
 {
     let (explain, first) = (audit_of.explain, since);
@@ -292,7 +292,7 @@ fn part_audited(
     now: Option<Seconds>,
     whole: ClusterList,
 ) -> Result<Answer, Failure>
-    ensures { IfOk result (λ a. AuditsWhole audit.now (zones_of zones.now) since whole
+    ensures { IfOk result (λ a. AuditsWhole audit.now (zones_of zones.now) since now whole
         (outcome_of a)) }
 {
     let within = audit.namespace;
@@ -315,7 +315,7 @@ fn known_audited(
     unknown: &str,
 ) -> Result<Answer, Failure>
     ensures { IfOk result (λ a. RefusesAuditCron audit.now unknown.now (outcome_of a)
-        ⊎ AuditsKnown audit.now (zones_of zones.now) since whole unknown.now (outcome_of a)) }
+        ⊎ AuditsKnown audit.now (zones_of zones.now) since now whole unknown.now (outcome_of a)) }
 {
     if is_nothing(unknown) {
         part_audited(alloc, audit, zones, files, since, now, whole)
@@ -347,7 +347,7 @@ fn whole_audited(
     now: Option<Seconds>,
     whole: ClusterList,
 ) -> Result<Answer, Failure>
-    ensures { IfOk result (λ a. IsWholeAudited audit.now (zones_of zones.now) since whole
+    ensures { IfOk result (λ a. IsWholeAudited audit.now (zones_of zones.now) since now whole
         (outcome_of a)) }
 {
     let unknown = unknown_of(alloc, audit, &whole)?;
@@ -373,7 +373,7 @@ fn bytes_audited(
     now: Option<Seconds>,
     bytes: &[u8],
 ) -> Result<Answer, Failure>
-    ensures { IfOk result (λ a. IsAuditedOf audit.now (zones_of zones.now) since bytes.now
+    ensures { IfOk result (λ a. IsAuditedOf audit.now (zones_of zones.now) since now bytes.now
         (outcome_of a)) }
 {
     match read_cluster(alloc, bytes, zones) {

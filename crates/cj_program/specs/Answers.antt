@@ -38,5 +38,5 @@ IsOutcome (Describe r) files input o = InForm r.output.now (λ m. IsDescribed r 
 IsOutcome (Previous r) files input o = InForm r.output.now (λ m. IsPreviousOutcome r files m) o
 IsOutcome (Report r) files input o = IsReportOutcome r files o
 IsOutcome (Scenario r) files input o = IsScenarioAnswer r files o
-IsOutcome (Crontab r) files input o = IsCrontabOutcome r o
+IsOutcome (Crontab r) files input o = IsCrontabOutcome r input o
 IsOutcome (Control r) files input o = ⊥

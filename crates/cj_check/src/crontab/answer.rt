@@ -1,9 +1,9 @@
 // What `crontab` answers.
-ghost use Rattle.std.specs.Prelude.{◌≡◌, ◌⊎◌, All, IfOk};
+ghost use Rattle.std.specs.Prelude.{◌≡◌, ◌⊎◌, IfOk};
 ghost use Rattle.std.specs.List.{list_any};
 ghost use Rattle.cj_answers.specs.Outcome.{explained, outcome_of, refusal};
-ghost use Rattle.cj_check.specs.Crontab.{IsEntry, is_refused};
-ghost use Rattle.cj_check.specs.CrontabOutcome.{IsCrontabOutcome, IsCrontabRead, ending_by};
+ghost use Rattle.cj_check.specs.Crontab.{AreEntries, is_refused};
+ghost use Rattle.cj_check.specs.CrontabOutcome.{IsBytesOutcome, IsCrontabOutcome, IsCrontabRead, ending_by};
 
 use crate::crontab::as_json::crontab_json;
 use crate::crontab::clock::Clocks;
@@ -52,8 +52,8 @@ fn told_answer(
     entries: &[Entry<'_>],
     bytes: &[u8],
 ) -> Result<Answer, Failure>
-    requires { All IsEntry entries.now }
-    ensures { IfOk result (λ a. IsCrontabRead (outcome_of a)) }
+    requires read { AreEntries bytes.now entries.now }
+    ensures { IfOk result (λ a. IsCrontabRead bytes.now (outcome_of a)) }
 {
     let printed = if is_json(request.output) {
         crontab_json(alloc, request.file, clocks, entries, bytes)?
@@ -77,9 +77,10 @@ fn yaml_answer(
     common: Common<'_>,
     clocks: &Clocks<'_>,
     entries: &[Entry<'_>],
+    bytes: &[u8],
 ) -> Result<Answer, Failure>
-    requires { All IsEntry entries.now }
-    ensures { IfOk result (λ a. IsCrontabOutcome request.now (outcome_of a)) }
+    requires { AreEntries bytes.now entries.now }
+    ensures { IfOk result (λ a. IsBytesOutcome request.now bytes.now (outcome_of a)) }
 {
     let manifests = manifests_of(alloc, common, clocks, entries)?;
     if manifests.is_long {
@@ -102,7 +103,7 @@ fn bytes_answer(
     zones: &ZoneTable,
     bytes: &[u8],
 ) -> Result<Answer, Failure>
-    ensures { IfOk result (λ a. IsCrontabOutcome request.now (outcome_of a)) }
+    ensures { IfOk result (λ a. IsBytesOutcome request.now bytes.now (outcome_of a)) }
 {
     let form = Form {
         system: request.system,
@@ -119,7 +120,7 @@ fn bytes_answer(
         shell: request.shell,
         namespace: request.namespace,
     };
-    yaml_answer(alloc, request, common, &clocks, entries.as_slice())
+    yaml_answer(alloc, request, common, &clocks, entries.as_slice(), bytes)
 }
 
 // The answer to an input: the zones are looked at first, then all of it is read.
@@ -129,7 +130,8 @@ fn input_answer<R: Read>(
     files: &[ZoneFile],
     input: &mut R,
 ) -> Result<Answer, Failure>
-    ensures { IfOk result (λ a. IsCrontabOutcome request.now (outcome_of a)) }
+    ensures { IfOk result (λ a. IsCrontabOutcome request.now (R.remaining input.old)
+        (outcome_of a)) }
 {
     let Some(zones) = given_zones(alloc, &request.zones, files)? else {
         return refused_pair(alloc, request.explain);
@@ -172,7 +174,8 @@ pub fn crontab_answer<R: Read>(
     files: &[ZoneFile],
     input: &mut R,
 ) -> Result<Answer, Failure>
-    ensures { IfOk result (λ a. IsCrontabOutcome request.now (outcome_of a)) }
+    ensures { IfOk result (λ a. IsCrontabOutcome request.now (R.remaining input.old)
+        (outcome_of a)) }
 {
     if !is_form(request.output) && !is_yaml(request.output) {
         return refused(alloc, request, "cronsim: output\n", FORM_WORDS);

@@ -1,11 +1,12 @@
 // The lines of a crontab that say something.
-ghost use Rattle.std.specs.Prelude.{◌≡◌, ◌++◌, ◌∷◌, [], All, IfOk, OnOk};
+ghost use Rattle.std.specs.Prelude.{◌≡◌, ◌++◌, ◌∷◌, ℕ, List, [], None, IfOk, OnOk, if◌then◌else◌, length, nat_lt};
 ghost use Rattle.std.specs.List.{list_any};
-ghost use Rattle.cj_check.specs.Crontab.{IsEntry, IsLine, is_refused};
+ghost use Rattle.cj_check.specs.Crontab.{Adds, AddsOne, AreEntries, IsLine, is_refused, is_silent, without_blanks};
 
 use crate::crontab::environment::Environment;
 use crate::crontab::fault::{LineError, LineFault};
 use crate::crontab::line::{Line, line_of};
+use crate::crontab::pieces::first_line;
 use crate::crontab::setting::Setting;
 use cj_zone::ZoneTable;
 use std::alloc::{AllocError, Global};
@@ -42,7 +43,9 @@ struct Reading<'a> {
 }
 
 // The bytes without the blanks in front.
-fn without_blanks(bytes: &[u8]) -> &[u8] {
+fn without_blanks(bytes: &[u8]) -> &[u8]
+    ensures { result.now ≡ without_blanks bytes.now }
+{
     let mut rest = bytes;
     while let [b' ' | b'\t', more @ ..] = rest {
         rest = more;
@@ -51,7 +54,9 @@ fn without_blanks(bytes: &[u8]) -> &[u8] {
 }
 
 // Whether a line says nothing: it is blank, or a comment.
-fn is_silent(line: &[u8]) -> bool {
+fn is_silent(line: &[u8]) -> bool
+    ensures { result ≡ is_silent line.now }
+{
     matches!(line, [] | [b'#', ..])
 }
 
@@ -63,10 +68,16 @@ impl<'a> Reading<'a> {
         self.entries.push(entry).map_err(AllocError::from)
     }
 
-    fn push(&mut self, number: usize, line: Line<'a>) -> Result<(), AllocError>
-        requires { IsLine line }
-        ensures { OnOk result (All IsEntry self.old.entries.items →
-            All IsEntry self.new.entries.items) }
+    // Adds an entry for the line of that number and text.
+    fn push(
+        &mut self,
+        number: usize,
+        text: &'a [u8],
+        line: Line<'a>,
+    ) -> Result<(), AllocError>
+        requires { IsLine text.now line }
+        ensures { OnOk result (AddsOne (number, text.now) self.old.entries.items
+            self.new.entries.items) }
     {
         let entry = Entry {
             number,
@@ -93,7 +104,7 @@ impl<'a> Reading<'a> {
     }
 
     fn set(&mut self, zones: &ZoneTable, setting: Setting<'a>) -> Result<Line<'a>, AllocError>
-        ensures line { IfOk result IsLine }
+        ensures line { IfOk result (λ l. (text : List ℕ) → IsLine text l) }
         ensures entries { self.new.entries ≡ self.old.entries }
     {
         if !self.environment.set(setting)? {
@@ -114,7 +125,7 @@ impl<'a> Reading<'a> {
         zones: &ZoneTable,
         bytes: &'a [u8],
     ) -> Result<Line<'a>, AllocError>
-        ensures line { IfOk result IsLine }
+        ensures line { IfOk result (IsLine bytes.now) }
         ensures entries { self.new.entries ≡ self.old.entries }
     {
         let Ok(text) = str::from_utf8(bytes) else {
@@ -135,7 +146,7 @@ impl<'a> Reading<'a> {
         zones: &ZoneTable,
         bytes: &'a [u8],
     ) -> Result<Line<'a>, AllocError>
-        ensures line { IfOk result IsLine }
+        ensures line { IfOk result (IsLine bytes.now) }
         ensures entries { self.new.entries ≡ self.old.entries }
     {
         if self.entries.len() < MOST_LINES {
@@ -153,31 +164,40 @@ impl<'a> Reading<'a> {
         number: usize,
         bytes: &'a [u8],
     ) -> Result<(), AllocError>
-        ensures { OnOk result (All IsEntry self.old.entries.items →
-            All IsEntry self.new.entries.items) }
+        ensures { OnOk result (Adds number bytes.now self.old.entries.items
+            self.new.entries.items) }
     {
         let bytes = without_blanks(bytes);
         if is_silent(bytes) {
             return Ok(());
         }
         let line = self.line_in_turn(alloc, zones, bytes)?;
-        self.push(number, line)
+        self.push(number, bytes, line)
     }
 
-    fn is_full(&self) -> bool {
-        self.entries.len() > MOST_LINES
+    // What is to be read of what is behind a line: nothing once there is an entry too many.
+    fn left<'b>(&self, behind: Option<&'b [u8]>) -> Option<&'b [u8]>
+        ensures { result ≡ (if nat_lt 100_000 (length self.now.entries.items) then None
+            else behind.entry) }
+    {
+        if self.entries.len() > MOST_LINES {
+            None
+        } else {
+            behind
+        }
     }
 }
 
 /// The lines of a crontab that say something, in their order. A line that is refused doesn't stop
-/// the reading.
+/// the reading; after the first 100,000 one more is refused, and no other is read.
+#[tactic(auto, using(crate::proofs::CrontabLines::begins, crate::proofs::CrontabLines::reads_on, crate::proofs::CrontabLines::read_whole, crate::proofs::CrontabLines::number_fits, crate::proofs::CrontabLines::fewer_lines))]
 pub(crate) fn entries_of<'a>(
     alloc: Global,
     form: Form<'a>,
     zones: &ZoneTable,
     bytes: &'a [u8],
 ) -> Result<Vec<Entry<'a>>, AllocError>
-    ensures { IfOk result (λ v. All IsEntry v.items) }
+    ensures { IfOk result (λ v. AreEntries bytes.now v.items) }
 {
     let mut reading = Reading {
         entries: Vec::new(alloc),
@@ -185,13 +205,13 @@ pub(crate) fn entries_of<'a>(
         form,
         zone: form.zone,
     };
-    let mut number = 0usize;
-    for line in bytes.split(|byte| *byte == b'\n') {
-        number = number.saturating_add(1);
+    let mut rest = Some(bytes);
+    let mut number = 0;
+    while let Some(text) = rest {
+        let (line, behind) = first_line(text);
+        number += 1;
         reading.read(alloc, zones, number, line)?;
-        if reading.is_full() {
-            break;
-        }
+        rest = reading.left(behind);
     }
     let Reading { entries, .. } = reading;
     Ok(entries)

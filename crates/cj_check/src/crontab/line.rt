@@ -99,7 +99,8 @@ fn job_of<'a>(
     rest: &'a str,
     system: bool,
 ) -> Result<Job<'a>, LineError>
-    ensures { IfOk result IsJob }
+    ensures job { IfOk result IsJob }
+    ensures when { IfOk result (λ j. j.when ≡ when.entry) }
 {
     let text = when.schedule_text(alloc)?;
     let schedule = match Schedule::parse(text.as_str()) {
@@ -129,7 +130,7 @@ fn is_macro(name: &str) -> bool {
 
 // A line that begins with a macro.
 fn macro_line(alloc: Global, text: &str, system: bool) -> Result<Line<'_>, LineError>
-    ensures { IfOk result IsLine }
+    ensures { IfOk result (IsLine text.now) }
 {
     let (name, rest) = next_word(text);
     if name == "@reboot" {
@@ -144,7 +145,7 @@ fn macro_line(alloc: Global, text: &str, system: bool) -> Result<Line<'_>, LineE
 
 // A line of five fields.
 fn fields_line(alloc: Global, text: &str, system: bool) -> Result<Line<'_>, LineError>
-    ensures { IfOk result IsLine }
+    ensures { IfOk result (IsLine text.now) }
 {
     if lacks_value(text) {
         return Err(LineError::Fault(LineFault::NoValue));
@@ -176,7 +177,7 @@ fn refuse_control(text: &str) -> Result<(), LineFault> {
 /// What a line says, without the blanks in front. `system` is whether a user stands before the
 /// command.
 pub(crate) fn line_of(alloc: Global, text: &str, system: bool) -> Result<Line<'_>, LineError>
-    ensures { IfOk result IsLine }
+    ensures { IfOk result (IsLine text.now) }
 {
     refuse_control(text)?;
     if let Some(setting) = setting_of(text) {

@@ -1,4 +1,5 @@
 // The lines that set a variable: `NAME = value` (crontab(5)).
+ghost use Rattle.std.specs.Str.{IsTrimAsciiStart};
 
 /// A variable and its value, for the lines below.
 #[derive(Clone, Copy, Debug)]
@@ -8,7 +9,9 @@ pub(crate) struct Setting<'a> {
 }
 
 /// The text without the blanks in front.
-pub(crate) fn without_blanks(text: &str) -> &str {
+pub(crate) fn without_blanks(text: &str) -> &str
+    ensures { IsTrimAsciiStart text.now result.now }
+{
     text.trim_ascii_start()
 }
 

@@ -1,9 +1,11 @@
 // When a line's command is started: five fields, or a macro in their place.
-ghost use Rattle.std.specs.Prelude.{◌≡◌, IfOk, string_bytes};
-ghost use Rattle.cj_check.specs.Crontab.{IsScheduleText, fields_text};
+ghost use Rattle.std.specs.Prelude.{◌≡◌, ◌<◌, ◌≤◌, All, IfOk, IfSome, IsCharBoundary, drop, false, length, slice_index, string_bytes, take, true};
+ghost use Rattle.cj_check.specs.Crontab.{BeginsWith, IsFirstWord, IsScheduleText, fields_text, is_blank, words_of};
+ghost use Rattle.cj_check.specs.declared.crontab.when.When.TheVariants as By;
 
 use crate::crontab::setting::without_blanks;
 use crate::crontab::sunday::weekdays_text;
+use memchr::memchr2;
 use std::alloc::{AllocError, Global};
 
 /// The five fields of a line.
@@ -24,30 +26,38 @@ pub(crate) enum When<'a> {
 }
 
 // The text in two before that byte.
-fn cut(text: &str, at: usize) -> (&str, &str) {
+fn cut(text: &str, at: usize) -> (&str, &str)
+    requires { IsCharBoundary text.now at }
+    ensures { (result.0.now ≡ take at text.now) × (result.1.now ≡ drop at text.now) }
+{
     match text.split_at_checked(at) {
         Some(parts) => parts,
         None => (text, ""),
     }
 }
 
+// How many bytes stand before the first blank: all of them, if there is none.
+fn word_length(text: &[u8]) -> usize
+    ensures within { result ≤ length text.now }
+    ensures before { All (λ b. is_blank b ≡ false) (take result text.now) }
+    ensures at { result < length text.now → is_blank (slice_index text.now result) ≡ true }
+{
+    memchr2(b' ', b'\t', text).unwrap_or(text.len())
+}
+
 /// The first word of a text that begins with one, and the text from the second word on.
-pub(crate) fn next_word(text: &str) -> (&str, &str) {
-    let bytes = text.as_bytes();
-    match bytes
-        .iter()
-        .position(|byte| *byte == b' ' || *byte == b'\t')
-    {
-        Some(end) => {
-            let (word, rest) = cut(text, end);
-            (word, without_blanks(rest))
-        }
-        None => (text, ""),
-    }
+#[tactic(auto, using(crate::proofs::CrontabWords::first_word, crate::proofs::CrontabWords::is_boundary))]
+pub(crate) fn next_word(text: &str) -> (&str, &str)
+    ensures { IsFirstWord text.now result.0.now result.1.now }
+{
+    let (word, rest) = cut(text, word_length(text.as_bytes()));
+    (word, without_blanks(rest))
 }
 
 /// The first five words, and what is behind them; none where there are fewer.
-pub(crate) fn fields_of(text: &str) -> Option<(Fields<'_>, &str)> {
+pub(crate) fn fields_of(text: &str) -> Option<(Fields<'_>, &str)>
+    ensures { IfSome result (λ f. BeginsWith (words_of (By.Fields f.0)) text.now) }
+{
     let (minute, rest) = next_word(text);
     let (hour, rest) = next_word(rest);
     let (day, rest) = next_word(rest);

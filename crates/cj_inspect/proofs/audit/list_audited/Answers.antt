@@ -1,5 +1,5 @@
 -- list_audited: its ensures, from the findings of the list and what is told of them.
-use Rattle.std.proofs.Common.{◌≡◌, ◌∙◌, ap, arith, map, rules, subst, ℕ, List, string_bytes}
+use Rattle.std.proofs.Common.{◌≡◌, ◌∙◌, ap, arith, map, rules, subst, subst₂, ℕ, List, string_bytes}
 use Rattle.std.specs.FinMap as map_of
 use Rattle.std.proofs.lemmas.Result.{IfOk-weaker}
 use Rattle.cj_zone.specs.Table.{zones_of}
@@ -8,6 +8,7 @@ use Rattle.cj_audit.specs.declared.finding.Finding.{Finding}
 use Rattle.cj_cluster.specs.declared.kubectl.notes.ItemNote.{ItemNote}
 use Rattle.cj_inspect.specs.Audit.{audited, seen, words_of}
 use Rattle.cj_inspect.specs.Nights.{TellsNights}
+use Rattle.cj_inspect.specs.declared.nights.look.Look.{Look}
 use Rattle.cj_answers.specs.Outcome.{Outcome, explained, outcome_of}
 use Rattle.cj_inspect.proofs.audit.list_audited.Goals as goal
 
@@ -18,7 +19,6 @@ returns c =
     let all = c.in_ok-all.all in
     let findings = seen c.args.since all in
     let printed = string_bytes c.in_ok-printed.printed in
-    let look = c.in_ok-look.look in
     let base : outcome_of c.in_ok-answer.answer
     ≡ explained explain (words_of list findings) (audited list findings printed) = grind arith in
     IfOk-weaker c.with_clocks.result _ _ (λ a e. record {
@@ -27,7 +27,6 @@ returns c =
           c.as_slice.ensures c.in_ok-all.ensures.ok;
       printed = printed;
       prints = search rules;
-      look = look;
-      nights = subst (λ (b : Outcome). TellsNights explain (zones_of c.args.zones.now) look
-          (map (λ x. x.cron) (map_of.values list.cluster.crons)) b (outcome_of a)) base e;
+      nights = subst₂ (λ (l : Look) (b : Outcome). TellsNights explain (zones_of c.args.zones.now) l
+          (map (λ x. x.cron) (map_of.values list.cluster.crons)) b (outcome_of a)) c.in_ok-look.ensures.ok base e;
     }) c.with_clocks.ensures

@@ -10,5 +10,5 @@ pub returns : goal.returns
 returns c =
     let r = c.args.audit.now in
     subst (λ (w : List ℕ). IfOk c.known_audited.result (λ a. RefusesAuditCron r w (outcome_of a)
-    ⊎ AuditsKnown r (zones_of c.args.zones.now) c.args.since c.args.whole w (outcome_of a)))
+    ⊎ AuditsKnown r (zones_of c.args.zones.now) c.args.since c.args.now c.args.whole w (outcome_of a)))
     (c.as_str.ensures.value ∙ c.in_ok-unknown.ensures) c.known_audited.ensures
