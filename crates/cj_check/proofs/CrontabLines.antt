@@ -25,6 +25,7 @@ lines_none = refl
 not_feed : (b : ℕ) → b ≢ 10 → (b == 10) ≡ false
 not_feed b ne = grind (arith, nat_tests)
 
+-- a text in which no line ends is one line
 plain_alone : (text : List ℕ) → AllByRecursion (λ b. b ≢ 10) text → lines_in text ≡ text ∷ []
 plain_alone [] h = lines_none
 plain_alone (b ∷ bs) h = lines_cons b bs false (not_feed b h.0) ∙ ap (onto_line b) (plain_alone bs h.1)

@@ -54,6 +54,7 @@ abbrev pub IsBytesOutcome : CrontabRequest → List ℕ → Outcome → Type 0
 IsBytesOutcome r bytes o = IsCrontabRefused r o ⊎ IsCrontabRead bytes o
 
 -- all of the input is read
+-- rule: crontab-status
 pub record ReadsCrontab (r : CrontabRequest) (input : Option (List ℕ)) (o : Outcome) : Type 0 where
   pub bytes : List ℕ
   pub bytes_are : IfSome input (λ xs. bytes ≡ xs)
