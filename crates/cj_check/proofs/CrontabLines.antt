@@ -139,7 +139,8 @@ all_read bytes before es g = record { left = []; read = g.read; all = λ _. refl
 pub read_whole : (bytes : List ℕ) (before : ℕ) (rest : Option (Bor (List ℕ))) (es : List Entry) → rest ≡ None
     → Reads bytes before rest es → AreEntries bytes es
 read_whole bytes before rest es none (inl g) =
-    all_read bytes before es (subst (λ (o : Option (Bor (List ℕ))). Goes bytes before (option_map (λ t. t.now) o) es) none g)
+    all_read bytes before es
+    (subst (λ (o : Option (Bor (List ℕ))). Goes bytes before (option_map (λ t. t.now) o) es) none g)
 read_whole bytes before rest es none (inr x) = x.1
 
 -- nothing is read yet
@@ -157,11 +158,14 @@ reads_by : (bytes text line : List ℕ) (before : ℕ) (behind : Option (Bor (Li
     → IfSome (option_map (λ t. t.now) behind) (λ t. length t < length text) → Adds (before + 1) line es es'
     → Reads bytes (before + 1) (cond t None behind) es'
 reads_by bytes text line before behind es es' true much g is short adds =
-    inr (refl, full bytes (telling (before + 1 + 1) (lines_behind (option_map (λ t. t.now) behind))) es'
-        (line_read bytes text line before (option_map (λ t. t.now) behind) es es' g is adds) much)
+    inr (
+      refl,
+      full bytes (telling (before + 1 + 1) (lines_behind (option_map (λ t. t.now) behind))) es'
+          (line_read bytes text line before (option_map (λ t. t.now) behind) es es' g is adds) much,
+    )
 reads_by bytes text line before behind es es' false few g is short adds =
     inl (line_goes bytes text line before (option_map (λ t. t.now) behind) es es' g is short adds
-        (grind (arith, nat_tests)))
+    (grind (arith, nat_tests)))
 
 -- what is behind a line is shorter than the text that begins with it
 seen_shorter : (behind : Option (Bor (List ℕ))) (n : ℕ) → IfSome behind (λ t. length t.now < n)

@@ -36,8 +36,8 @@ spaces_taken : (l : List ℕ) (n : ℕ) → n ≤ length l → IsAsciiWhitespace
     → All (λ b. is_ascii_whitespace b ≡ true) (take n l)
 spaces_taken l n le below =
     All-from_get_or (λ b. is_ascii_whitespace b ≡ true) (take n l) 0 (λ i lt.
-        let short : i < n = subst (λ m. i < m) (length-take-le n l le) lt in
-        subst (λ b. is_ascii_whitespace b ≡ true) (sym (get_or-take n l i 0 short)) (below i short))
+    let short : i < n = subst (λ m. i < m) (length-take-le n l le) lt in
+    subst (λ b. is_ascii_whitespace b ≡ true) (sym (get_or-take n l i 0 short)) (below i short))
 
 -- where no blank is taken off a text that begins with one, nothing is there
 ends_at : (l rest : List ℕ) (n : ℕ) → rest ≡ drop n l → (0 < length l → is_blank (get_or l 0 0) ≡ true)
@@ -64,7 +64,7 @@ first_word text rest k le whole at (n, is, long, below, not) =
       blanks = spaces_taken (drop k text) n short below;
       ends = ends_at (drop k text) rest n is
           (λ lt. subst (λ b. is_blank b ≡ true) (sym (get_or-drop k text 0 0))
-              (subst (λ m. is_blank (get_or text m 0) ≡ true) (omega arith) (at (omega (arith, len, lt))))) not;
+          (subst (λ m. is_blank (get_or text m 0) ≡ true) (omega arith) (at (omega (arith, len, lt))))) not;
     }
 
 -- five words, one after the other

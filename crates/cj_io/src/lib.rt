@@ -3,8 +3,8 @@
 //! Here belongs how input is read within its limits, as a whole or line by line, how output is
 //! written or begun, and (`zone_files`) which zones an input names and what words and folders give
 //! of them. What is printed belongs to the crates above. They rest on `read_input`,
-//! `LineReader::read_line`, `plain_length`, `write_whole` and `Pending`, on `tell_failure`, and on `zones_named`
-//! and `table_with`.
+//! `LineReader::read_line`, `plain_length`, `write_whole` and `Pending`, on `tell_failure`, and on
+//! `zones_named` and `table_with`.
 #![tactic(auto)]
 
 mod exit_status;

@@ -69,12 +69,7 @@ impl<'a> Reading<'a> {
     }
 
     // Adds an entry for the line of that number and text.
-    fn push(
-        &mut self,
-        number: usize,
-        text: &'a [u8],
-        line: Line<'a>,
-    ) -> Result<(), AllocError>
+    fn push(&mut self, number: usize, text: &'a [u8], line: Line<'a>) -> Result<(), AllocError>
         requires { IsLine text.now line }
         ensures { OnOk result (AddsOne (number, text.now) self.old.entries.items
             self.new.entries.items) }

@@ -2,7 +2,6 @@
 ghost use Rattle.std.specs.Prelude.{◌≡◌, None, IfErr, IfOk, min};
 ghost use Rattle.cj_base.specs.Instant.{last_second};
 ghost use Rattle.cj_base.specs.declared.refusal.Refusal.TheVariants.{OutOfMemory};
-
 ghost use Rattle.cj_inspect.specs.Nights.{look_in, look_of, widened, with_crons, with_jobs};
 
 use crate::nights::look::Look;

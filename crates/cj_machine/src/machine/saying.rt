@@ -94,7 +94,11 @@ pub(crate) fn say_passed(alloc: Global, driver: &mut Driver, task: &Task) -> Res
     }
     let (since, latest) = both(time(alloc, task.last), time(alloc, task.due))?;
     let (name, count) = (task.name.as_str(), plan.passed);
-    let since = if task.last == 0 { "its creation" } else { since.as_str() };
+    let since = if task.last == 0 {
+        "its creation"
+    } else {
+        since.as_str()
+    };
     let latest = latest.as_str();
     let text = format!(in alloc;
         "cronjob {name}: due times passed by since {since}: {count}; only the latest, {latest}, gets a job"
