@@ -32,13 +32,14 @@ class Process:
 
 
 def child_of(process):
-    """The process that a process has started, once it has; of none where it ends before."""
+    """The process that a process has started in a session of its own, as the transport does with
+    the program once it has tried its options; of none where it ends before."""
     path = Path(f"/proc/{process.pid}/task/{process.pid}/children")
     while not process.has_ended(0.05):
         try:
-            found = path.read_text().split()
-            if found:
-                return Process(int(found[0]))
+            for found in map(int, path.read_text().split()):
+                if os.getsid(found) == found:
+                    return Process(found)
         except OSError:
             pass
     return None

@@ -28,6 +28,8 @@ class Observer:
     def __init__(self, api, namespace, log):
         self.api, self.namespace, self.log = api, namespace, log
         self.items = {it: {} for it in KINDS}
+        # The version of the last event, from which a watch that breaks off goes on.
+        self.versions = dict.fromkeys(KINDS)
         self.listeners, self.lock, self.has_ended = [], threading.RLock(), False
 
     def start(self):
@@ -57,14 +59,12 @@ class Observer:
             return self.items[resource].get(uid)
 
     def follow(self, resource):
-        version = None
         while not self.has_ended:
             try:
-                version = self.watch(resource, version or self.list(resource))
+                self.versions[resource] = self.versions[resource] or self.list(resource)
+                self.watch(resource)
             except Exception as fault:
-                # (a watch that breaks off goes on from a new list)
                 self.note("trouble", resource=resource, fault=str(fault)[:200])
-                version = None
                 time.sleep(0.5)
 
     def list(self, resource):
@@ -78,17 +78,20 @@ class Observer:
             self.see(resource, "MODIFIED", item | {"kind": KINDS[resource]})
         return found["metadata"]["resourceVersion"]
 
-    def watch(self, resource, version):
-        """Watches to the end of the watch; the version to go on from, of none after an error."""
+    def watch(self, resource):
+        """Watches to the end of the watch; where the server has forgotten the last version, all is
+        listed again, and what came meanwhile is seen late or not at all."""
         path = self.api.path(self.namespace, resource)
+        version = self.versions[resource]
         query = f"?watch=1&allowWatchBookmarks=true&timeoutSeconds=300&resourceVersion={version}"
         for event in self.api.events(path + query):
             if event["type"] == "ERROR":
-                return None
-            version = event["object"]["metadata"]["resourceVersion"]
+                self.note("forgotten", resource=resource)
+                self.versions[resource] = None
+                return
             if event["type"] != "BOOKMARK":
                 self.see(resource, event["type"], event["object"])
-        return version
+            self.versions[resource] = event["object"]["metadata"]["resourceVersion"]
 
     def see(self, resource, kind, item):
         item["metadata"].pop("managedFields", None)

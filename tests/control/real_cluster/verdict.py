@@ -17,6 +17,9 @@ has finished or is gone. A CronJob is told by its uid. Counted are:
     early          the same, of a time after the last one, which can (no fault)
     held again     a Job that ran, and was held later
 
+Each due time without a Job that ran is looked up in what people were told (told.py); `unmade` are
+those, by what was told, and `untold` are those of which nobody was told.
+
 Counted too, and no fault: `taken out`, an unfinished Job that stood, taken out of status.active
 (by the order of the server's resource versions), and `never held`, a Job that was made without a
 hold, which ours never is. Beside the cluster's own controller a claimed Job may be lost.
@@ -27,6 +30,10 @@ import time
 from calendar import timegm
 from collections import Counter, defaultdict
 from functools import lru_cache
+from pathlib import Path
+
+sys.path.insert(0, str(Path(__file__).resolve().parent))
+from told import Told  # noqa: E402
 
 TIME, POLICY = "batch.kubernetes.io/cronjob-scheduled-timestamp", "cronsim/policy"
 # Seconds: what is quiet, what makes a CronJob stuck, and how long a policy stays.
@@ -130,7 +137,8 @@ class Verdict:
         self.owned = defaultdict(list)
         self.counts, self.found, self.delays = Counter(), [], []
         self.begin = self.calm = self.now = 0
-        self.by_users = set()
+        self.by_users, self.said = set(), Told(second_of)
+        self.unmade, self.untold = Counter(), []
 
     def tell(self, kind, text):
         self.counts[kind] += 1
@@ -155,8 +163,13 @@ class Verdict:
         elif entry["note"] == "edit":
             self.counts["edited: " + entry["what"]] += 1
             self.by_users.add(entry["uid"])
-        elif entry["note"] == "trouble":
-            self.counts["troubles of the observer"] += 1
+        elif entry["note"] == "event":
+            self.said.see_event(entry["item"])
+        elif entry["note"] == "line":
+            self.said.see_line(entry["text"])
+        elif entry["note"] in ("trouble", "forgotten"):
+            self.counts["troubles of the observer"] += entry["note"] == "trouble"
+            self.counts["gaps of the observer"] += entry["note"] == "forgotten"
 
     def see_cron(self, kind, item):
         uid = item["metadata"]["uid"]
@@ -235,6 +248,7 @@ class Verdict:
                 active = (cron.item.get("status") or {}).get("active") or []
                 if any(not it.get("name") for it in active):
                     self.tell("nameless", cron.name)
+            self.find_unmade(uid, cron)
         for job in self.jobs.values():
             if job.gone is None and holds(job.item) and job.seen + QUIET / 2 < self.now:
                 self.find_garbage(job)
@@ -268,6 +282,17 @@ class Verdict:
         if self.now - last > STUCK:
             self.tell("stuck", f"{cron.name}: nothing since {clock(last)}")
 
+    def find_unmade(self, uid, cron):
+        """Looks up why a time that was due, a minute ago or earlier, has no Job that ran."""
+        first, last = max(self.begin, cron.seen), min(cron.gone or self.now, self.now - QUIET)
+        ran = {it.time for it in self.owned[uid] if it.ran}
+        for time_due in range((int(first // 60) + 1) * 60, int(last) + 1, 60):
+            if time_due not in ran:
+                why = self.said.why(uid, cron, time_due, self.owned[uid], self.by_users)
+                self.unmade[why or "untold"] += 1
+                if why is None:
+                    self.untold.append(f"untold: {cron.name} {clock(time_due)}")
+
     def due(self):
         """How many due times there were from the begin on, of all CronJobs while they stood."""
         spans = ((max(self.begin, it.seen), it.gone or self.now) for it in self.crons.values())
@@ -283,16 +308,17 @@ class Verdict:
 
     def summary(self):
         edits = {it[8:]: n for it, n in self.counts.items() if it.startswith("edited: ")}
-        others = (*OTHERS, "troubles of the observer")
+        others = (*OTHERS, "troubles of the observer", "gaps of the observer")
         counts = {it: self.counts[it] for it in ("starts", *WRONG, *others)}
-        return {"due": self.due()} | counts | {"edits": edits, "delay": self.figures()}
+        found = {"due": self.due()} | counts | {"edits": edits, "delay": self.figures()}
+        return found | {"unmade": dict(sorted(self.unmade.items()))}
 
 
 def main():
     verdict = Verdict()
     with open(sys.argv[1]) as file:
         verdict.read(file)
-    print("\n".join(verdict.found))
+    print("\n".join(verdict.found + verdict.untold))
     print(json.dumps(verdict.summary()))
 
 
