@@ -50,7 +50,11 @@ class Runner:
                     rest = self.waiting[0][0] - time.time() if self.waiting else None
                     self.wakes.wait(rest)
                 work = heapq.heappop(self.waiting)[2]
-            self.pool.submit(self.do, *work)
+            try:
+                self.pool.submit(self.do, *work)
+            except RuntimeError:
+                # (the test is over)
+                return
 
     def do(self, act, *given):
         try:

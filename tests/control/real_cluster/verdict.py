@@ -108,6 +108,10 @@ class Job:
     def runs(self):
         return self.ran is not None and self.ended is None and self.gone is None
 
+    def ran_at(self, moment):
+        """Whether it ran at a moment."""
+        return self.ran is not None and self.ran <= moment <= (self.ended or self.gone or moment)
+
     def is_leaving(self):
         return "deletionTimestamp" in self.item["metadata"]
 
