@@ -2,6 +2,7 @@
 lines.
 
     told of the time   an Event or a line names it, as `no replica claimed its time ..` does
+    passed by          a line counts the times from one to another, of which only the latest has a Job
     edited             its CronJob was deleted within some seconds
     deleted            its Job was deleted by a user before it ran
     Forbid             a Job of the CronJob ran then, which an Event JobAlreadyActive tells
@@ -11,6 +12,7 @@ import re
 
 TIME = re.compile(r"\d{4}-\d\d-\d\dT\d\d:\d\d:00Z")
 WORDS = re.compile(r"cronjob [^/ ]+/([^: ]+): ")
+PASSED = r"due times passed by since ([^:]+(?::\d\d:\d\dZ)?): \d+; only the latest, (\S+), gets"
 # Seconds: how soon behind its due time the end of a CronJob explains that there is no Job, and by
 # how much an Event may come later than the time.
 SOON, LATE = 10, 120
@@ -23,7 +25,7 @@ class Told:
     """
 
     def __init__(self, second_of):
-        self.second_of, self.named, self.events = second_of, set(), {}
+        self.second_of, self.named, self.events, self.passed = second_of, set(), {}, {}
 
     def see_event(self, item):
         about = item["involvedObject"]
@@ -37,7 +39,17 @@ class Told:
         found = WORDS.search(text)
         if found:
             said = text[found.end() :]
+            self.see_passed(found[1], said)
             self.named |= {(found[1], self.second_of(it)) for it in TIME.findall(said)}
+
+    def see_passed(self, name, said):
+        found = re.match(PASSED, said)
+        if found:
+            since = self.second_of(found[1]) if found[1][0].isdigit() else 0
+            self.passed.setdefault(name, []).append((since, self.second_of(found[2])))
+
+    def was_passed(self, name, due):
+        return any(since < due < latest for since, latest in self.passed.get(name, ()))
 
     def has_event(self, uid, reason, due):
         """Whether an Event of this reason was told at a time, or somewhat later."""
@@ -48,6 +60,8 @@ class Told:
         """What was told of a due time of a CronJob with these Jobs; of none where nothing was."""
         if (cron.name, due) in self.named:
             return "told of the time"
+        if self.was_passed(cron.name, due):
+            return "passed by"
         if cron.gone is not None and cron.gone < due + SOON:
             return "edited"
         if any(it.time == due and it.item["metadata"]["uid"] in by_users for it in jobs):
