@@ -2,7 +2,7 @@
 lines.
 
     told of the time   an Event or a line names it, as `no replica claimed its time ..` does
-    passed by          a line counts the times from one to another, of which only the latest has a Job
+    passed by          a line counts the times between two, of which only the latest has a Job
     edited             its CronJob was deleted within some seconds
     deleted            its Job was deleted by a user before it ran
     Forbid             a Job of the CronJob ran then, which an Event JobAlreadyActive tells
