@@ -1,6 +1,6 @@
 -- In a run the clock goes on only where all is done that was due, so that each due time of a CronJob
 -- which no entry troubles has its Job.
-use Rattle.std.proofs.Common.{◌≡◌, ◌⊎◌, inl, inr, ◌∙◌, ◌+◌, ◌-◌, ◌<◌, ◌≤◌, ◌&&◌, ◌||◌, ℕ, zero, suc, Bool, true, false, List, [], ◌∷◌, ◌++◌, Option, Some, None, is_some, unwrap_or, refl, sym, ap, subst, arith}
+use Rattle.std.proofs.Common.{◌≡◌, ◌⊎◌, inl, inr, ◌∙◌, ◌+◌, ◌-◌, ◌<◌, ◌≤◌, ◌&&◌, ◌||◌, ℕ, zero, suc, Bool, true, false, List, [], ◌∷◌, ◌++◌, Option, Some, None, is_some, refl, sym, ap, subst, arith}
 use Rattle.std.specs.Prelude.{Result, Ok, Err, if◌then◌else◌}
 use Rattle.std.specs.FinMap as map
 use Rattle.std.proofs.lemmas.Bool.{false≢true}
@@ -16,11 +16,13 @@ use Rattle.cj_table.proofs.Puts.{put_split, put_there, removal_split}
 use Rattle.cj_calls.specs.Rows.{Told}
 use Rattle.cj_calls.specs.declared.call.Call.{Call}
 use Rattle.cj_calls.specs.declared.call.Call.TheVariants as Of
+use Rattle.cj_calls.specs.declared.caller.Role.TheVariants.{User}
 use Rattle.cj_calls.specs.declared.reply.Reply.{Reply}
 use Rattle.cj_calls.specs.declared.reply.Reply.TheVariants as Is
 use Rattle.cj_state.specs.Legal.{IsLegal, state_of}
 use Rattle.cj_world_laws.specs.legal.Exclusive.{IsTake}
 use Rattle.cj_world_laws.specs.legal.InFlightSyncs.{sync}
+use Rattle.cj_history.specs.progress.Apart.{Spares}
 use Rattle.cj_history.specs.progress.Every.{looked_upto, IsNew}
 use Rattle.cj_history.specs.progress.Kept.{NoneTakes, IsDone}
 use Rattle.cj_history.specs.progress.Prompt.{IsOver, IsAwaited, first, again, GoesOn, KeepUp, HaveKeptUp}
@@ -31,13 +33,14 @@ use Rattle.cj_history.proofs.ProgressLemmas.InTime.{each_in_time, each_allowed, 
 use Rattle.cj_world.specs.Worlds.{WorldLog}
 use Rattle.cj_script.specs.simulation.Spans.{SpanView, instant}
 use Rattle.cj_script.specs.declared.simulation.scenario.Simulation.{Simulation}
-use Rattle.cj_run.specs.Syncs.{moment, IsUntroubled, AreUntroubled, RunsUntroubled, RunKeepsUp, RunMakesEach, RunMakesEachAllowed, RunMakesEachEnded}
-use Rattle.cj_run.specs.Turns.{are_timely, begins, edits, ends, progress, progress_of}
+use Rattle.cj_run.specs.Syncs.{moment, next_moment, RunsUntroubled, RunKeepsUp, RunMakesEach, RunMakesEachAllowed, RunMakesEachEnded}
+use Rattle.cj_run.specs.Turns.{are_timely, begins, edits, ends, progress, progress_of, turn}
 use Rattle.cj_run.specs.Upkeep.{Drafts, KeepsUp, IsCaughtUp, is_over_with, untaken, untaken_by, untaken_after}
 use Rattle.cj_run.specs.declared.turns.Progress.{Progress}
 use Rattle.cj_run.proofs.Ordered.{both_left}
 use Rattle.cj_run.proofs.Kept.{tail_of, no_entry}
-use Rattle.cj_run.proofs.Apart.{is_clock, none_at_rest, none_over, none_off, rests_of, Alone, alone}
+use Rattle.cj_run.proofs.Later.{AreSpared}
+use Rattle.cj_run.proofs.Apart.{clock_from, clock_on, mul_on, reached, none_at_rest, none_over, none_off, rests_of, Alone, alone}
 
 -- ---- the ends of syncs
 
@@ -104,7 +107,7 @@ untaken_call m k call r was take gone = was
 
 -- So does an entry.
 untaken_entry : (window : ℕ) (e : Told) (h : List Told) (k : Place) → IsLegal window (e ∷ h)
-    → IsUntroubled window k h e → (IsTake k e → ⊥) → is_some (map.get (untaken h) k) ≡ true
+    → (e.caller.role ≡ User → Spares h e k None) → (IsTake k e → ⊥) → is_some (map.get (untaken h) k) ≡ true
     → is_some (map.get (untaken (e ∷ h)) k) ≡ true
 untaken_entry window e h k l calm not was = by e.answer refl
   where
@@ -117,11 +120,11 @@ untaken_entry window e h k l calm not was = by e.answer refl
           call = call;
           answer = f ∙ ap (λ (y : Reply). Ok y) key;
         }))
-        (λ call. deletes_it window e h k r l call f calm.edits)
+        (λ call. deletes_it window e h k r l call f calm)
 
 -- From its creation on a CronJob is untaken, while nobody takes its key.
 still_untaken : (window : ℕ) (start es : List Told) (k : Place) (cron : CronJob) (s : Sets) → IsNew start k cron s
-    → IsLegal window (es ++ start) → AreUntroubled window k es start → NoneTakes k es
+    → IsLegal window (es ++ start) → AreSpared k es start → NoneTakes k es
     → is_some (map.get (untaken (es ++ start)) k) ≡ true
 still_untaken window start [] k cron s new l calm none =
     let at_creation : is_some (map.get (untaken (new.creation ∷ new.before)) k) ≡ true =
@@ -157,6 +160,21 @@ step_on : (s : SpanView) (p : Progress) (starts over edit : Bool)
 step_on s p true over edit = next_instant s p.begun
 step_on s p false true edit = omega arith
 step_on s p false false edit = omega arith
+
+-- With an entry at most one instant begins.
+turns_next : (p : Progress) (starts over edit : Bool)
+    → (if starts then progress (p.begun + 1) true false
+    else (if over then progress p.begun false edit else p)).begun ≤ p.begun + 1
+turns_next p true over edit = omega arith
+turns_next p false true edit = omega arith
+turns_next p false false edit = omega arith
+
+-- A later instant has a greater number.
+later_number : (s : SpanView) (n m : ℕ) → instant s n < instant s m → n < m
+later_number s n m lt = omega (arith, not)
+  where
+    not : m ≤ n → ⊥
+    not l = let j = mul_on m n s.step l in omega (arith, j, lt)
 
 -- Where the clock goes on an instant begins.
 begins_then : (s : SpanView) (p : Progress) (starts over edit : Bool)
@@ -224,12 +242,13 @@ over_ahead window s (e ∷ h) l timely keeps off k t o =
         before was k t (over_before e h k (Some t)
         (none_off window s h l.2 early (rests_of window s h front) was) o)
 
--- cron is created with start, at its moment, and no entry of more troubles it.
+-- cron is created with start, at the moment of the instant that begins next, and no entry of more troubles it.
 module _ (window : ℕ) (s : SpanView) (start : List Told) (k : Place) (cron : CronJob) (sets : Sets)
-    (new : IsNew start k cron sets) (soon : moment s start ≤ looked_upto cron []) where
+    (new : IsNew start k cron sets) (soon : moment s start ≤ looked_upto cron [])
+    (at : cron.meta.created ≡ next_moment s start) where
   -- Between two instants no later one began where its key wasn't taken yet.
   first_ahead : (es : List Told) → IsLegal window (es ++ start) → KeepsUp window s (es ++ start)
-      → AreUntroubled window k es start → NoneTakes k es → (progress_of s (es ++ start)).on ≡ false
+      → AreSpared k es start → NoneTakes k es → (progress_of s (es ++ start)).on ≡ false
       → moment s (es ++ start) ≤ looked_upto cron []
   first_ahead [] l keeps calm none off = soon
   first_ahead (e ∷ es) l keeps calm none off =
@@ -259,7 +278,7 @@ module _ (window : ℕ) (s : SpanView) (start : List Told) (k : Place) (cron : C
 
   -- So no sync is awaited then from a time on that has come,
   ahead_off : (es : List Told) → IsLegal window (es ++ start) → are_timely s (es ++ start) ≡ true
-      → KeepsUp window s (es ++ start) → AreUntroubled window k es start → (progress_of s (es ++ start)).on ≡ false
+      → KeepsUp window s (es ++ start) → AreSpared k es start → (progress_of s (es ++ start)).on ≡ false
       → (t : ℕ) → IsAwaited k cron start (es ++ start) t → moment s (es ++ start) < t
   ahead_off es l timely keeps calm off t (again o) =
       over_ahead window s (es ++ start) l timely keeps off k t o
@@ -269,7 +288,7 @@ module _ (window : ℕ) (s : SpanView) (start : List Told) (k : Place) (cron : C
       omega (arith, low, time)
 
   -- nor where an instant is over.
-  ahead_on : (es : List Told) → IsLegal window (es ++ start) → AreUntroubled window k es start
+  ahead_on : (es : List Told) → IsLegal window (es ++ start) → AreSpared k es start
       → IsCaughtUp window (moment s (es ++ start)) (es ++ start)
       → (t : ℕ) → IsAwaited k cron start (es ++ start) t → moment s (es ++ start) < t
   ahead_on es l calm c t (again o) =
@@ -281,13 +300,17 @@ module _ (window : ℕ) (s : SpanView) (start : List Told) (k : Place) (cron : C
 
   -- The clock goes on so with an entry.
   goes_on : s.step ≤ 60 → (e : Told) (es : List Told) → IsLegal window (e ∷ (es ++ start))
-      → are_timely s (e ∷ (es ++ start)) ≡ true → KeepsUp window s (e ∷ (es ++ start)) → AreUntroubled window k es start
-      → GoesOn k cron start (es ++ start) (moment s (es ++ start)) (moment s (e ∷ (es ++ start)))
+      → are_timely s (e ∷ (es ++ start)) ≡ true → KeepsUp window s (e ∷ (es ++ start)) → AreSpared k es start
+      → GoesOn k cron start (es ++ start) (clock_from cron.meta.created s (es ++ start))
+      (clock_from cron.meta.created s (e ∷ (es ++ start)))
   goes_on step e es l timely keeps calm = record {
     minute = (let m = step_on s p (begins s p e.caller.role e.call) (ends e.caller.role e.call)
         (edits e.caller.role || p.edited) in omega (arith, m, step));
-    free = λ lt n f. cc (sym f.sync ∙ none (starts lt) p.on refl n.number);
-    ahead = λ lt. by (starts lt) p.on refl;
+    free = λ lt n f. cc (sym f.sync ∙ none (starts (run_on lt)) p.on refl n.number);
+    ahead = λ lt t a.
+        (let before = by (starts (run_on lt)) p.on refl t a in
+        let came = came_before lt in
+        omega (arith, before, came));
   }
     where
       h : List Told
@@ -301,6 +324,19 @@ module _ (window : ℕ) (s : SpanView) (start : List Told) (k : Place) (cron : C
 
       front : KeepsUp window s h
       front = keeps_front window s e h keeps
+
+      run_on : clock_from cron.meta.created s h < clock_from cron.meta.created s (e ∷ h) → moment s h < moment s (e ∷ h)
+      run_on lt = omega (arith, lt)
+
+      came_before : clock_from cron.meta.created s h < clock_from cron.meta.created s (e ∷ h)
+          → cron.meta.created ≤ moment s h
+      came_before lt =
+          let past : instant s (turn s start) < instant s (turn s (e ∷ h) - 1) = omega (arith, lt, at) in
+          let later = later_number s (turn s start) (turn s (e ∷ h) - 1) past in
+          let one = turns_next p (begins s p e.caller.role e.call) (ends e.caller.role e.call)
+          (edits e.caller.role || p.edited) in
+          let r = reached s (turn s start) (turn s h) (omega (arith, later, one)) in
+          omega (arith, r, at)
 
       starts : moment s h < moment s (e ∷ h) → begins s p e.caller.role e.call ≡ true
       starts lt =
@@ -318,8 +354,8 @@ module _ (window : ℕ) (s : SpanView) (start : List Told) (k : Place) (cron : C
 
   -- So it does with each.
   keep_up : s.step ≤ 60 → (more : List Told) → IsLegal window (more ++ start)
-      → are_timely s (more ++ start) ≡ true → KeepsUp window s (more ++ start) → AreUntroubled window k more start
-      → KeepUp k cron (moment s) more start
+      → are_timely s (more ++ start) ≡ true → KeepsUp window s (more ++ start) → AreSpared k more start
+      → KeepUp k cron (clock_from cron.meta.created s) more start
   keep_up step [] l timely keeps calm = tt
   keep_up step (e ∷ es) l timely keeps calm = (
     goes_on step e es l timely keeps calm.1,
@@ -329,35 +365,39 @@ module _ (window : ℕ) (s : SpanView) (start : List Told) (k : Place) (cron : C
 
 -- ---- the whole run
 
--- For run_due_times_law: the syncs of a CronJob that no entry troubles keep up with the clock.
-pub run_keeps_up : RunKeepsUp
-run_keeps_up c workers w text start more k cron s z y =
-    let window : ℕ = w.limits.window in
-    let g : List Told = more ++ start in
-    let created = y.created in
-    let a : Alone window c.span start more k cron s z =
-    alone c workers w text start more k cron s z y.run y.is y.short y.new (omega (arith, created)) y.zone y.calm in
-    let first_is : looked_upto cron [] ≡ cron.meta.created =
-    ap (λ (o : Option ℕ). unwrap_or o cron.meta.created) a.fresh.last in
-    let soon : moment c.span start ≤ looked_upto cron [] = omega (arith, created, first_is) in
-    let within : moment c.span g ≤ looked_upto cron [] + reach =
-    subst (λ (n : ℕ). moment c.span g ≤ n + reach) (sym first_is)
-    (subst (λ (h : List Told). moment c.span h ≤ cron.meta.created + reach) y.is y.within) in
-    subst (λ (h : List Told). HaveKeptUp window k cron s z (moment c.span h) start h) (sym y.is)
-    (syncs_keep_up window start more k cron s z (moment c.span) a.good.short a.good.legal a.good.planned a.fresh.begun
-    a.free a.over (is_clock c.span) a.low (omega (arith, soon)) a.apart
-    (keep_up window c.span start k cron s y.new soon y.minute more a.good.legal a.timely a.keeps y.calm)
-    (ahead_off window c.span start k cron s y.new soon more a.good.legal a.timely a.keeps y.calm a.off) within)
-
 -- The first interval begins at the creation.
 since_created : (c : Simulation) (workers : ℕ) (w : WorldLog) (text : List ℕ) (start more : List Told) (k : Place)
     (cron : CronJob) (s : Sets) (z : Zone) → RunsUntroubled c workers w text start more k cron s z
     → looked_upto cron [] ≡ cron.meta.created
 since_created c workers w text start more k cron s z y =
-    let created = y.created in
-    let a = alone c workers w text start more k cron s z y.run y.is y.short y.new (omega (arith, created)) y.zone
-    y.calm in
-    ap (λ (o : Option ℕ). unwrap_or o cron.meta.created) a.fresh.last
+    (alone c workers w text start more k cron s z y.run y.timed y.is y.short y.new y.zone y.left y.calm).first
+
+-- For run_due_times_law: the syncs of a CronJob that no entry troubles keep up with the clock.
+pub run_keeps_up : RunKeepsUp
+run_keeps_up c workers w text start more k cron s z y =
+    let window : ℕ = w.limits.window in
+    let g : List Told = more ++ start in
+    let a : Alone window c.span start more k cron s z =
+    alone c workers w text start more k cron s z y.run y.timed y.is y.short y.new y.zone y.left y.calm in
+    let at = a.at in
+    let first_is = a.first in
+    let came = a.came in
+    let before = mul_on (turn c.span start - 1) (turn c.span start) c.span.step (omega arith) in
+    let soon : moment c.span start ≤ looked_upto cron [] = omega (arith, at, first_is, before) in
+    let within : moment c.span g ≤ cron.meta.created + reach =
+    subst (λ (h : List Told). moment c.span h ≤ cron.meta.created + reach) y.is y.within in
+    let kept : HaveKeptUp window k cron s z (clock_from cron.meta.created c.span g) start g =
+    syncs_keep_up window start more k cron s z (clock_from cron.meta.created c.span) a.good.short a.good.legal
+    a.good.planned a.fresh.begun a.free a.over (clock_on cron.meta.created c.span) (omega (arith, first_is))
+    (omega (arith, first_is, soon)) a.apart
+    (keep_up window c.span start k cron s y.new soon a.at y.minute more a.good.legal a.timely a.keeps a.spared)
+    (λ t awaited.
+    (let ahead = ahead_off window c.span start k cron s y.new soon a.at more a.good.legal a.timely a.keeps a.spared a.off t
+    awaited in
+    omega (arith, ahead, came)))
+    (omega (arith, within, came, first_is)) in
+    subst (λ (h : List Told). HaveKeptUp window k cron s z (moment c.span h) start h) (sym y.is)
+    (subst (λ (n : ℕ). HaveKeptUp window k cron s z n start g) a.came kept)
 
 -- For run_due_times_law: the Jobs that are made for it are one for each due time.
 pub run_makes_each : RunMakesEach

@@ -1,7 +1,7 @@
 -- In a run nobody but workers and the informer calls while a key is held, so that a CronJob is left
 -- to its syncs.
-use Rattle.std.proofs.Common.{◌≡◌, ◌≢◌, ◌⊎◌, inl, inr, ◌∙◌, ◌+◌, ◌-◌, ◌*◌, ◌≤◌, ◌==◌, ◌&&◌, ◌||◌, ℕ, zero, suc, Bool, true, false, List, [], ◌∷◌, ◌++◌, length, Option, Some, None, unwrap_or, refl, sym, ap, subst, arith}
-use Rattle.std.specs.Prelude.{Result, Ok, Err, if◌then◌else◌}
+use Rattle.std.proofs.Common.{◌≡◌, ◌≢◌, ◌⊎◌, inl, inr, ◌∙◌, ◌+◌, ◌-◌, ◌*◌, ◌<◌, ◌≤◌, ◌==◌, ◌&&◌, ◌||◌, ℕ, zero, suc, Bool, true, false, List, [], ◌∷◌, ◌++◌, length, Option, Some, None, unwrap_or, refl, sym, ap, subst, arith}
+use Rattle.std.specs.Prelude.{Result, Ok, Err, if◌then◌else◌, max}
 use Rattle.std.specs.FinMap as map
 use Rattle.std.specs.Ordering.{nat_cmp}
 use Rattle.std.proofs.lemmas.Bool.{eqb-true, false≢true}
@@ -11,7 +11,6 @@ use Rattle.cj_types.specs.Keys.{Place}
 use Rattle.cj_types.specs.Made.{made_place}
 use Rattle.cj_types.specs.Uids.{last_uid}
 use Rattle.cj_types.specs.declared.cron.CronJob.{CronJob}
-use Rattle.cj_types.specs.declared.cron.CronJobDraft.{CronJobDraft}
 use Rattle.cj_types.specs.declared.cron.CronSpec.{CronSpec}
 use Rattle.cj_zone.specs.declared.table.ZoneTable.{ZoneTable}
 use Rattle.cj_zone.specs.declared.zone.Zone.{Zone}
@@ -23,7 +22,6 @@ use Rattle.cj_calls.specs.declared.caller.Caller.{Caller}
 use Rattle.cj_calls.specs.declared.caller.Role.{Role}
 use Rattle.cj_calls.specs.declared.caller.Role.TheVariants.{Informer, Runner, User, Worker}
 use Rattle.cj_calls.specs.declared.reply.Reply.{Reply}
-use Rattle.cj_calls.specs.declared.reply.Reply.TheVariants as Say
 use Rattle.cj_state.specs.Legal.{IsLegal, ArePlanned, state_of}
 use Rattle.cj_state.specs.declared.phases.sync.InFlight.{InFlight}
 use Rattle.cj_world_laws.specs.legal.InFlightSyncs.{sync, sync_after}
@@ -37,19 +35,22 @@ use Rattle.cj_history.specs.progress.Apart.{Holds, IsFree, ClaimsOnTime, Spares,
 use Rattle.cj_history.proofs.ProgressLemmas.Makers.{Good, earlier}
 use Rattle.cj_history.proofs.ProgressLemmas.Since.{Fresh, fresh_new, every_time_since}
 use Rattle.cj_history.proofs.ProgressLemmas.Apart.{syncs_go_on}
-use Rattle.cj_history.proofs.ProgressLemmas.Spared.{is_users, no_user, cron_spared, job_spared}
+use Rattle.cj_history.proofs.ProgressLemmas.Spared.{cron_spared, job_spared}
 use Rattle.cj_script.specs.simulation.Spans.{SpanView, instant}
 use Rattle.cj_script.specs.declared.simulation.scenario.Simulation.{Simulation}
 use Rattle.cj_world.specs.Worlds.{WorldLog}
 use Rattle.cj_schedule.specs.Matches.{Sets}
 use Rattle.cj_history.specs.progress.Every.{IsNew}
 use Rattle.cj_run.specs.Runs.{IsRun}
-use Rattle.cj_run.specs.Syncs.{moment, HasFreeName, IsUntroubled, AreUntroubled, AreSyncs, RunSyncs}
+use Rattle.cj_run.specs.Simulations.{AreTimed}
+use Rattle.cj_run.specs.Syncs.{moment, next_moment, HasFreeName, IsUntroubled, AreUntroubled, AreSyncs, LeavesAlone, RunSyncs}
 use Rattle.cj_run.specs.Turns.{are_timely, begins, edits, ends, is_before, is_moment, is_timely, is_within, progress, progress_of, turn}
 use Rattle.cj_run.specs.Upkeep.{ComesToRest, KeepsUp, is_over_with}
 use Rattle.cj_run.specs.Zones.{AreZoned, HasZone}
 use Rattle.cj_run.specs.declared.turns.Progress.{Progress}
 use Rattle.cj_run.proofs.Ordered.{both_left, both_right}
+use Rattle.cj_run.proofs.Created.{is_created}
+use Rattle.cj_run.proofs.Later.{AreSpared, are_spared}
 
 -- ---- the clock
 
@@ -62,7 +63,7 @@ turns_on p false true edit = omega arith
 turns_on p false false edit = omega arith
 
 -- A product is no smaller for a larger factor.
-mul_on : (a b c : ℕ) → a ≤ b → a * c ≤ b * c
+pub mul_on : (a b c : ℕ) → a ≤ b → a * c ≤ b * c
 mul_on zero b c l = omega arith
 mul_on (suc a) zero c l = absurd (omega (arith, l))
 mul_on (suc a) (suc b) c l = let r = mul_on a b c (omega (arith, l)) in omega (arith, r)
@@ -80,6 +81,51 @@ is_clock s e h =
     later_instant s (turn s h) (turn s (e ∷ h))
     (turns_on (progress_of s h) (begins s (progress_of s h) e.caller.role e.call) (ends e.caller.role e.call)
     (edits e.caller.role || (progress_of s h).edited))
+
+-- the clock of a CronJob that was created at the moment: from then on, the run's
+abbrev pub clock_from : ℕ → SpanView → List Told → ℕ
+clock_from created s h = max created (moment s h)
+
+-- It doesn't go back.
+pub clock_on : (created : ℕ) (s : SpanView) → IsClock (clock_from created s)
+clock_on created s e h = let on = is_clock s e h in omega (arith, on)
+
+-- With more entries no fewer instants have begun.
+pub turn_on : (s : SpanView) (es start : List Told) → turn s start ≤ turn s (es ++ start)
+turn_on s [] start = omega arith
+turn_on s (e ∷ es) start =
+    let h : List Told = es ++ start in
+    let before = turn_on s es start in
+    let on = turns_on (progress_of s h) (begins s (progress_of s h) e.caller.role e.call) (ends e.caller.role e.call)
+    (edits e.caller.role || (progress_of s h).edited) in
+    omega (arith, before, on)
+
+-- Where none goes on, one that goes on later began since.
+began_since : (s : SpanView) (es start : List Told) → (progress_of s start).on ≡ false
+    → (progress_of s (es ++ start)).on ≡ true → turn s start < turn s (es ++ start)
+began_since s [] start off on = absurd (false≢true (sym off ∙ on))
+began_since s (e ∷ es) start off on =
+    by (begins s p e.caller.role e.call) (ends e.caller.role e.call) (edits e.caller.role || p.edited)
+    (began_since s es start off) (turn_on s es start) on
+  where
+    p : Progress
+    p = progress_of s (es ++ start)
+
+    by : (starts over edit : Bool) → (p.on ≡ true → turn s start < p.begun) → turn s start ≤ p.begun
+        → (if starts then progress (p.begun + 1) true false
+        else (if over then progress p.begun false edit else p)).on ≡ true
+        → turn s start < (if starts then progress (p.begun + 1) true false
+        else (if over then progress p.begun false edit else p)).begun
+    by true over edit before more on = omega (arith, more)
+    by false true edit before more on = absurd (false≢true on)
+    by false false edit before more on = before on
+
+-- Where an instant began, its moment was reached.
+pub reached : (s : SpanView) (n m : ℕ) → n < m → instant s n ≤ instant s (m - 1)
+reached s n m l =
+    let i : n ≤ m - 1 = omega (arith, l) in
+    let j = mul_on n (m - 1) s.step i in
+    omega (arith, j)
 
 -- ---- who calls
 
@@ -249,8 +295,10 @@ module _ (window : ℕ) (s : SpanView) (zones : ZoneTable) (k : Place) (cron : C
   -- An entry that doesn't trouble the CronJob leaves it to its syncs.
   keeps_apart : (e : Told) (h : List Told) → Good window (e ∷ h) → are_timely s (e ∷ h) ≡ true
       → ComesToRest window s (e ∷ h) → HasZone zones e.call → IsUntroubled window k h e
-      → KeepsApart window k cron z (moment s h) h e
-  keeps_apart e h good timely rests zoned y = record {
+      → (e.caller.role ≡ User → Spares h e k None)
+      → ((progress_of s h).on ≡ true → cron.meta.created ≤ moment s h)
+      → KeepsApart window k cron z (clock_from cron.meta.created s h) h e
+  keeps_apart e h good timely rests zoned y spared low = record {
     accepted = y.accepted;
     ends = y.ends;
     claims = λ f. claim_on f e.call refl;
@@ -259,9 +307,13 @@ module _ (window : ℕ) (s : SpanView) (zones : ZoneTable) (k : Place) (cron : C
   }
     where
       claim_on : Holds h k e.caller → (call : Call) → e.call ≡ call
-          → ClaimsOnTime cron z (moment s h) (state_of window h).store call
+          → ClaimsOnTime cron z (clock_from cron.meta.created s h) (state_of window h).store call
       claim_on f (Of.Claim plan) call = record {
-        at = at_moment s e h plan (both_right (are_timely s h) _ timely) f.role call;
+        at =
+            (let at = at_moment s e h plan (both_right (are_timely s h) _ timely) f.role call in
+            let came = low (on_then window s e h good.legal timely rests e.caller.number
+            (record { key = k; phase = f.phase }) f.sync) in
+            omega (arith, at, came));
         zone = λ seen g same.
             subst (HasZone zones) call zoned ∙ ap (zone_for zones) g
             ∙ ap (λ (x : CronSpec). zone_for zones (Some (record cron { spec = x }))) same ∙ zone;
@@ -270,7 +322,7 @@ module _ (window : ℕ) (s : SpanView) (zones : ZoneTable) (k : Place) (cron : C
       claim_on f call is = tt
 
       by_role : (Holds h k e.caller → ⊥) → (r : Role) → e.caller.role ≡ r → Spares h e k None
-      by_role free User r = y.edits r
+      by_role free User r = spared r
       by_role free Runner r = cron_spared window h e k good (λ f. cc (sym r ∙ f)) free
       by_role free Informer r = cron_spared window h e k good (λ f. cc (sym r ∙ f)) free
       by_role free Worker r = cron_spared window h e k good (λ f. cc (sym r ∙ f)) free
@@ -299,14 +351,16 @@ module _ (window : ℕ) (s : SpanView) (zones : ZoneTable) (k : Place) (cron : C
   -- So does each.
   keep_apart : (more start : List Told) → Good window (more ++ start) → are_timely s (more ++ start) ≡ true
       → ComesToRest window s (more ++ start) → AreZoned zones (more ++ start) → AreUntroubled window k more start
-      → KeepApart window k cron z (moment s) more start
-  keep_apart [] start good timely rests zoned y = tt
-  keep_apart (e ∷ es) start good timely rests zoned y = (
+      → AreSpared k more start
+      → ((es : List Told) → (progress_of s (es ++ start)).on ≡ true → cron.meta.created ≤ moment s (es ++ start))
+      → KeepApart window k cron z (clock_from cron.meta.created s) more start
+  keep_apart [] start good timely rests zoned y spared low = tt
+  keep_apart (e ∷ es) start good timely rests zoned y spared low = (
     keeps_apart e (es ++ start) good timely rests
-        (All-head (λ (x : Told). HasZone zones x.call) e (es ++ start) zoned) y.0,
+        (All-head (λ (x : Told). HasZone zones x.call) e (es ++ start) zoned) y.0 spared.0 (low es),
     keep_apart es start (earlier window (e ∷ []) (es ++ start) good)
         (both_left (are_timely s (es ++ start)) _ timely) (rests_front window s e (es ++ start) rests)
-        (All-tail (λ (x : Told). HasZone zones x.call) e (es ++ start) zoned) y.1,
+        (All-tail (λ (x : Told). HasZone zones x.call) e (es ++ start) zoned) y.1 spared.1 low,
   )
 
 -- ---- the whole run
@@ -315,23 +369,7 @@ module _ (window : ℕ) (s : SpanView) (zones : ZoneTable) (k : Place) (cron : C
 pub rests_of : (window : ℕ) (s : SpanView) (h : List Told) → KeepsUp window s h → ComesToRest window s h
 rests_of window s h keeps later before e is over = (keeps later before e is over).settled
 
--- The creation of a CronJob is a user's call.
-by_user : (window : ℕ) (e : Told) (h : List Told) (d : CronJobDraft) (now : ℕ) (r : Reply) → IsLegal window (e ∷ h)
-    → e.call ≡ Of.CreateCron d now
-    → e.answer ≡ Ok r → e.caller.role ≡ User
-by_user window e h d now r l call answer = by e.caller.role refl
-  where
-    never : e.caller.role ≢ User → ⊥
-    never not =
-        cc (sym (no_user window e h l not (ap is_ok answer)) ∙ ap is_users call)
-
-    by : (role : Role) → e.caller.role ≡ role → e.caller.role ≡ User
-    by User f = f
-    by Worker f = absurd (never (λ g. cc (sym f ∙ g)))
-    by Runner f = absurd (never (λ g. cc (sym f ∙ g)))
-    by Informer f = absurd (never (λ g. cc (sym f ∙ g)))
-
--- After it nobody holds a key.
+-- After a user's call nobody holds a key.
 none_new : (window : ℕ) (s : SpanView) (e : Told) (h : List Told) → IsLegal window (e ∷ h)
     → are_timely s (e ∷ h) ≡ true → ComesToRest window s (e ∷ h) → e.caller.role ≡ User → (k : Place) → IsFree k (e ∷ h)
 none_new window s e h l timely rests user k c f =
@@ -358,18 +396,29 @@ pub record Alone (window : ℕ) (s : SpanView) (start more : List Told) (k : Pla
   pub keeps : KeepsUp window s (more ++ start)
   pub off : (progress_of s (more ++ start)).on ≡ false
   pub fresh : Fresh window start k cron sets
-  pub low : looked_upto cron [] ≤ moment s start
+  pub at : cron.meta.created ≡ next_moment s start
+  pub first : looked_upto cron [] ≡ cron.meta.created
+  pub came : clock_from cron.meta.created s (more ++ start) ≡ moment s (more ++ start)
   pub free : IsFree k start
   pub over : IsFree k (more ++ start)
-  pub apart : KeepApart window k cron z (moment s) more start
+  pub spared : AreSpared k more start
+  pub apart : KeepApart window k cron z (clock_from cron.meta.created s) more start
+
+-- By the end of a run the moment of a creation has come.
+came_to : (s : SpanView) (g start : List Told) (created : ℕ) → created ≡ next_moment s start
+    → (turn s start < turn s g) ⊎ (turn s start ≡ 0) → clock_from created s g ≡ moment s g
+came_to s g start created at (inl lt) = let r = reached s (turn s start) (turn s g) lt in omega (arith, at, r)
+came_to s g start created at (inr none) =
+    let first : instant s (turn s start) ≡ instant s 0 = ap (instant s) none in omega (arith, at, first)
 
 -- That is known of it.
 pub alone : (c : Simulation) (workers : ℕ) (w : WorldLog) (text : List ℕ) (start more : List Told) (k : Place)
-    (cron : CronJob) (s : Sets) (z : Zone) → IsRun c workers w text → w.history ≡ more ++ start
-    → length w.history ≤ last_uid → IsNew start k cron s → cron.meta.created ≤ moment c.span start
-    → zone_for c.zones (Some cron) ≡ Some z → AreUntroubled w.limits.window k more start
+    (cron : CronJob) (s : Sets) (z : Zone) → IsRun c workers w text → AreTimed c → w.history ≡ more ++ start
+    → length w.history ≤ last_uid → IsNew start k cron s
+    → zone_for c.zones (Some cron) ≡ Some z → LeavesAlone c w.history k start
+    → AreUntroubled w.limits.window k more start
     → Alone w.limits.window c.span start more k cron s z
-alone c workers w text start more k cron s z run is short new created zone calm =
+alone c workers w text start more k cron s z run timed is short new zone left calm =
     let window : ℕ = w.limits.window in
     let g : List Told = more ++ start in
     let good : Good window g = record {
@@ -384,34 +433,45 @@ alone c workers w text start more k cron s z run is short new created zone calm 
     sym (ap (λ (h : List Told). (progress_of c.span h).on) is) ∙ run.time.over in
     let old : Good window start = earlier window more start good in
     let fresh = fresh_new window start k cron s old new in
+    let spared = are_spared c workers w text k start more run is left in
+    let made = is_created c workers w text start more k cron s run timed is new in
     record {
       good = good;
       timely = timely;
       keeps = keeps;
       off = off;
       fresh = fresh;
-      low = subst (λ (o : Option ℕ). unwrap_or o cron.meta.created ≤ moment c.span start) (sym fresh.last) created;
+      at = made.at;
+      first = ap (λ (o : Option ℕ). unwrap_or o cron.meta.created) fresh.last;
+      came = subst (λ (h : List Told). clock_from cron.meta.created c.span h ≡ moment c.span h) is
+          (came_to c.span w.history start cron.meta.created made.at made.begun);
       free = subst (IsFree k) (sym new.is)
           (none_new window c.span new.creation new.before (subst (IsLegal window) new.is old.legal)
           (sym (ap (are_timely c.span) new.is) ∙ timely_front c.span more start timely)
           (subst (ComesToRest window c.span) new.is (rests_back window c.span more start rests))
-          (by_user window new.creation new.before new.draft new.now (Say.Cron cron)
-          (subst (IsLegal window) new.is old.legal) new.call new.answer) k);
+          made.user k);
       over = λ n f. cc (sym f.sync ∙ none_off window c.span g good.legal timely rests off n.number);
+      spared = spared;
       apart = keep_apart window c.span c.zones k cron z zone more start good timely rests
-          (subst (AreZoned c.zones) is run.zones) calm;
+          (subst (AreZoned c.zones) is run.zones) calm spared
+          (λ es on. (let at = made.at in
+          let r = reached c.span (turn c.span start) (turn c.span (es ++ start))
+          (began_since c.span es start made.off on) in
+          omega (arith, at, r)));
     }
 
 -- For run_syncs_law: a CronJob that no entry troubles has whole syncs.
 pub run_syncs : RunSyncs
-run_syncs c workers w text start more k cron s z run is short new created zone calm =
+run_syncs c workers w text start more k cron s z run timed is short new zone left calm =
     let window : ℕ = w.limits.window in
     let g : List Told = more ++ start in
     let a : Alone window c.span start more k cron s z =
-    alone c workers w text start more k cron s z run is short new created zone calm in
+    alone c workers w text start more k cron s z run timed is short new zone left calm in
+    let first = a.first in
     let syncs : HaveSynced window k cron z (moment c.span g) start g =
-    syncs_go_on window start more k cron s z (moment c.span) a.good.short a.good.legal a.good.planned a.fresh.begun
-    a.free a.over (is_clock c.span) a.low a.apart in
+    subst (λ (n : ℕ). HaveSynced window k cron z n start g) a.came
+    (syncs_go_on window start more k cron s z (clock_from cron.meta.created c.span) a.good.short a.good.legal
+    a.good.planned a.fresh.begun a.free a.over (clock_on cron.meta.created c.span) (omega (arith, first)) a.apart) in
     subst (λ (h : List Told). AreSyncs window k cron s z (moment c.span h) start h) (sym is) (record {
       are = syncs;
       made = every_time_since window start g k cron s z syncs.moments a.good.short a.good.legal a.good.planned new

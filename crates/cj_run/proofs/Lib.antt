@@ -8,5 +8,8 @@ pub mod Zoned
 pub mod Noted
 pub mod Reported
 pub mod Went
+pub mod Timed
+pub mod Created
+pub mod Later
 pub mod Apart
 pub mod Ahead

@@ -30,7 +30,7 @@ mod validation;
 mod work;
 mod zones;
 
-pub use laws::{run_due_times_law, run_syncs_law};
+pub use laws::{run_due_times_law, run_syncs_law, run_times_law};
 pub use meter::Meter;
 pub use run::{Ran, run_simulation};
 pub use turns::Progress;
