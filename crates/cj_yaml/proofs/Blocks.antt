@@ -1,13 +1,15 @@
 -- Text that grows by the parts of a value in block style.
 use Rattle.std.proofs.Common.{◌≡◌, ℕ, suc, ◌+◌, ◌<◌, ◌≤◌, List, [], ◌∷◌, ◌++◌, length, drop, get_or, string_bytes, Bool, true, false, Some, String, Vec, BTreeMap, Global, refl, sym, ap, ◌∙◌, subst, arith, append_assoc, append-nil}
 use Rattle.std.proofs.Math.Seq.{drop-cons}
+use Rattle.json.specs.Lex.{tokens}
+use Rattle.json.specs.Print.{print}
 use Rattle.serde_json.specs.Data.{Data, Items, item, Members, member, object, array, string, items_depth, members_depth}
 use Rattle.serde_json.specs.Read.{max_depth, read}
 use Rattle.serde_json.specs.View.{view, items_view, members_view}
 use Rattle.serde_json.specs.declared.value.Value.{Value, Array, Object}
 use Rattle.serde_json.proofs.Views.{view-Array, view-Object}
 use Rattle.cj_yaml.specs.Words.{GrowsByPrinted}
-use Rattle.cj_yaml.specs.BlockStyle.{front, literal_text, may_be_literal, IsLeaf, IsMember, IsItem, IsEntry, IsMapping, IsList, IsBlock, GrowsBy, text, literal, flow, entry, mapping, list, leaf, mapping_in, list_in, leaf_in, no_more, more, ended, further, of_mapping, of_list, of_leaf}
+use Rattle.cj_yaml.specs.BlockStyle.{front, literal_text, may_be_literal, is_flow, is_leaf, IsLeaf, IsMember, IsItem, IsEntry, IsMapping, IsList, IsBlock, GrowsBy, text, literal, flow, entry, mapping, list, leaf, mapping_in, list_in, leaf_in, no_more, more, ended, further, of_mapping, of_list, of_leaf}
 
 -- A text has grown by the front of a collection, and what is left behind makes it whole.
 pub record Begun (out old : List ℕ) (Left All : List ℕ → Type 0) : Type 0 where
@@ -184,7 +186,7 @@ list_alone v a new some e g =
     subst (λ d. IsBlock d new) (sym (view-Array v))
     (values_alone v.items new some (whole a new (IsList 0 false (items_view v.items)) e g))
 
--- For write_block and write_line: what stands on the line.
+-- For write_block: what stands on the line.
 pub leaf_alone : (d : Data) (a new : List ℕ) → a ≡ [] → GrowsBy (IsLeaf 2 d) a new → IsBlock d new
 leaf_alone d a new e g = of_leaf (whole a new (IsLeaf 2 d) e g)
 
@@ -204,14 +206,34 @@ pub literal_grows : (a new t : List ℕ) (n : ℕ) → may_be_literal t ≡ true
 literal_grows a new t n may e = record { part = literal_text n t; grows = e; is = literal may }
 
 -- For write_flow: as JSON has it.
-pub flow_grows : (a b new s : List ℕ) (d : Data) (n : ℕ) → read s ≡ Some d → b ≡ a ++ s → new ≡ b ++ 10 ∷ []
-    → GrowsBy (IsLeaf n d) a new
-flow_grows a b new s d n said e f =
+pub flow_grows : (a b new s : List ℕ) (d : Data) (n : ℕ) → is_flow d ≡ true → read s ≡ Some d
+    → s ≡ print (tokens s) → b ≡ a ++ s → new ≡ b ++ 10 ∷ [] → GrowsBy (IsLeaf n d) a new
+flow_grows a b new s d n no_lines said compact e f =
     record {
       part = s ++ 10 ∷ [];
       grows = f ∙ ap (λ x. x ++ 10 ∷ []) e ∙ append_assoc a s (10 ∷ []);
-      is = flow s said;
+      is = flow s no_lines (record { value = said; compact = compact });
     }
+
+-- For no_members_leaf: of its entries.
+no_entries_leaf : (es : List (String Global × Value)) → length es ≡ 0 → is_leaf (object (members_view es)) ≡ true
+no_entries_leaf [] none = refl
+no_entries_leaf (x ∷ es) none = absurd (omega (arith, none))
+
+-- For write_member and its like: a mapping with no members stands on its line.
+pub no_members_leaf : (ms : BTreeMap (String Global) Value) → length ms.entries ≡ 0 → is_leaf (view (Object ms)) ≡ true
+no_members_leaf ms none =
+    subst (λ d. is_leaf d ≡ true) (sym (view-Object ms)) (no_entries_leaf ms.entries none)
+
+-- For no_items_leaf: of its values.
+no_values_leaf : (vs : List Value) → length vs ≡ 0 → is_leaf (array (items_view vs)) ≡ true
+no_values_leaf [] none = refl
+no_values_leaf (v ∷ vs) none = absurd (omega (arith, none))
+
+-- For write_member and its like: a list with no items stands on its line.
+pub no_items_leaf : (v : Vec Value Global) → length v.items ≡ 0 → is_leaf (view (Array v)) ≡ true
+no_items_leaf v none =
+    subst (λ d. is_leaf d ≡ true) (sym (view-Array v)) (no_values_leaf v.items none)
 
 -- For write_members: all members are printed.
 pub members_end : (es : List (String Global × Value)) (out old : List ℕ) (n : ℕ) (c : Bool) (All : List ℕ → Type 0)

@@ -1,8 +1,11 @@
 -- A value in block style (YAML 1.2.2, chapter 8), as one document.
 use Rattle.std.specs.Prelude.{◌≡◌, ◌-◌, ◌+◌, ℕ, List, [], ◌∷◌, ◌++◌, length}
-use Rattle.std.specs.Prelude.{Bool, true, false, cond, not, ◌&&◌, ◌==◌, slice_index, Some, codes}
+use Rattle.std.specs.Prelude.{Bool, true, false, cond, not, ◌&&◌, ◌||◌, ◌==◌, slice_index, Some, is_some, codes}
 use Rattle.std.specs.List.{repeat}
-use Rattle.serde_json.specs.Data.{Data, string, array, object, Items, no_items, item, Members, no_members, member}
+use Rattle.json.specs.Lex.{tokens}
+use Rattle.json.specs.Print.{print}
+use Rattle.serde_json.specs.Data.{Data, null, boolean, number, string, array, object, Items, no_items, item, Members, no_members, member}
+use Rattle.serde_json.specs.Find.{as_str}
 use Rattle.serde_json.specs.Read.{read}
 use Rattle.cj_yaml.specs.Words.{IsPrinted}
 
@@ -40,14 +43,36 @@ literal_text n t = literal_head t ++ literal_lines n true t
 
 -- ---- values
 
--- what stands on its line, to the line's end, or in lines at a column: a text, or a value in flow
--- style as JSON has it (7.4)
+-- a value that block style has no lines for: null, a boolean, a number, and a list or a mapping with
+-- nothing in it
+-- rule: yaml-block
+abbrev pub is_flow : Data → Bool
+is_flow null = true
+is_flow (boolean b) = true
+is_flow (number n) = true
+is_flow (string s) = false
+is_flow (array no_items) = true
+is_flow (array (item d ds)) = false
+is_flow (object no_members) = true
+is_flow (object (member k d ms)) = false
+
+-- a value that is no block collection: a text, or what has no lines
+abbrev pub is_leaf : Data → Bool
+is_leaf d = is_flow d || is_some (as_str d)
+
+-- JSON of a value, with no blank in it
+pub record IsJson (d : Data) (printed : List ℕ) : Type 0 where
+  pub value : read printed ≡ Some d
+  pub compact : printed ≡ print (tokens printed)
+
+-- what stands on its line, to the line's end, or in lines at a column: a text, or in flow style, as
+-- JSON has it, what has no lines (7.4)
 -- rule: yaml-block
 pub data IsLeaf : ℕ → Data → List ℕ → Type 0 where
   text : {n : ℕ} {t : List ℕ} (printed : List ℕ) → IsPrinted t printed
       → IsLeaf n (string t) (printed ++ 10 ∷ [])
   literal : {n : ℕ} {t : List ℕ} → may_be_literal t ≡ true → IsLeaf n (string t) (literal_text n t)
-  flow : {n : ℕ} {d : Data} (printed : List ℕ) → read printed ≡ Some d
+  flow : {n : ℕ} {d : Data} (printed : List ℕ) → is_flow d ≡ true → IsJson d printed
       → IsLeaf n d (printed ++ 10 ∷ [])
 
 -- what stands behind the `:` of a key at a column: a mapping further in, a list there (8.2.2)
@@ -87,7 +112,7 @@ mutual
         → IsItem (n + 2) d t → IsList n false ds rest
         → IsList n compact (item d ds) ((front n compact ++ 45 ∷ 32 ∷ t) ++ rest)
 
--- a document: a mapping or a list at the first column, or a value without block collections
+-- a document: a mapping or a list at the first column, or what stands on its line or in lines
 -- rule: yaml-block
 pub data IsBlock : Data → List ℕ → Type 0 where
   of_mapping : {k : List ℕ} {d : Data} {ms : Members} {t : List ℕ}

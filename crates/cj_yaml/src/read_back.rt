@@ -11,7 +11,7 @@ use crate::fault::{Fault, FaultKind};
 use crate::notes::nests_within;
 use crate::stream::{MAX_DEPTH, read};
 use crate::write_fault::WriteFault;
-use crate::writer::{write_block, write_line};
+use crate::writer::write_block;
 use serde_json::Value;
 use std::alloc::{AllocError, Global};
 
@@ -49,8 +49,8 @@ pub fn write(alloc: Global, value: &Value) -> Result<String, WriteFault>
     write_for(alloc, &Yaml, value)
 }
 
-/// The text of a value that this reader was given, and which it took for one document with just
-/// that value. Should block style not be read so, it is the value's JSON text.
+/// The text of a value in block style, which this reader was given, and took for one document with
+/// just that value. Should it read that otherwise, there is no text (`NotReadBack`).
 pub fn write_for<R: Reads>(alloc: Global, reader: &R, value: &Value) -> Result<String, WriteFault>
     ensures reads_back { IfOk result
         (λ text. R.gives reader.now (string_bytes text) (view value.now ∷ [])) }
@@ -63,10 +63,6 @@ pub fn write_for<R: Reads>(alloc: Global, reader: &R, value: &Value) -> Result<S
     let block = write_block(alloc, value)?;
     if is_read_as(alloc, reader, block.as_str(), json.as_str())? {
         return Ok(block);
-    }
-    let line = write_line(alloc, value)?;
-    if is_read_as(alloc, reader, line.as_str(), json.as_str())? {
-        return Ok(line);
     }
     Err(WriteFault::NotReadBack)
 }

@@ -7,8 +7,8 @@ pub enum WriteFault {
     /// It nests deeper than what is read.
     #[error("the value nests more than 127 levels deep")]
     Nested,
-    /// What would be printed isn't read as the value, neither in block style nor as JSON.
-    #[error("the value has no text that is read as that value")]
+    /// Its text in block style isn't read as the value.
+    #[error("the value has no text in block style that is read as that value")]
     NotReadBack,
     /// Memory was asked for and refused.
     #[error("out of memory")]

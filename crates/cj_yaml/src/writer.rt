@@ -1,6 +1,6 @@
 // Values in block style, as `kubectl get -o yaml` prints them.
-ghost use Rattle.std.specs.Prelude.{◌≡◌, ◌+◌, ◌≤◌, ◌++◌, IfOk, OnOk, string_bytes};
-ghost use Rattle.cj_yaml.specs.BlockStyle.{GrowsBy, IsBlock, IsEntry, IsItem, IsLeaf, IsList, IsMapping, IsMember, front};
+ghost use Rattle.std.specs.Prelude.{◌≡◌, ◌+◌, ◌≤◌, ◌++◌, IfOk, OnOk, string_bytes, true};
+ghost use Rattle.cj_yaml.specs.BlockStyle.{GrowsBy, IsBlock, IsEntry, IsItem, IsLeaf, IsList, IsMapping, IsMember, front, is_flow, is_leaf};
 ghost use Rattle.serde_json.specs.Data.{depth, items_depth, members_depth, string};
 ghost use Rattle.serde_json.specs.Read.{max_depth};
 ghost use Rattle.serde_json.specs.View.{items_view, members_view, view};
@@ -14,7 +14,7 @@ use std::alloc::{AllocError, Global};
 // The text of a value: one document in block style, members in the order of their keys, two
 // spaces a level, a list at the indentation of its key. A text is plain where it reads back so,
 // literal where it has several lines, and else in double quotes.
-#[tactic(auto, using(crate::proofs::Blocks::mapping_alone, crate::proofs::Blocks::list_alone, crate::proofs::Blocks::leaf_alone))]
+#[tactic(auto, using(crate::proofs::Blocks::mapping_alone, crate::proofs::Blocks::list_alone, crate::proofs::Blocks::leaf_alone, crate::proofs::Blocks::no_members_leaf, crate::proofs::Blocks::no_items_leaf))]
 pub(crate) fn write_block(alloc: Global, value: &Value) -> Result<String, WriteFault>
     requires { depth (view value.now) ≤ max_depth }
     ensures { IfOk result (λ text. IsBlock (view value.now) (string_bytes text)) }
@@ -29,17 +29,6 @@ pub(crate) fn write_block(alloc: Global, value: &Value) -> Result<String, WriteF
         )?,
         _ => write_leaf(alloc, &mut out, value, 2)?,
     }
-    Ok(out)
-}
-
-// The text of a value on one line, as JSON has it.
-#[tactic(auto, using(crate::proofs::Blocks::leaf_alone))]
-pub(crate) fn write_line(alloc: Global, value: &Value) -> Result<String, WriteFault>
-    requires { depth (view value.now) ≤ max_depth }
-    ensures { IfOk result (λ text. IsBlock (view value.now) (string_bytes text)) }
-{
-    let mut out = String::new(alloc);
-    write_flow(alloc, &mut out, value, 2)?;
     Ok(out)
 }
 
@@ -110,7 +99,7 @@ fn write_entry(
 
 // Appends the value of a member, behind the `:` of a key at this column.
 #[cycle(writing)]
-#[tactic(auto, using(crate::proofs::Blocks::mapping_below, crate::proofs::Blocks::list_below, crate::proofs::Blocks::leaf_behind))]
+#[tactic(auto, using(crate::proofs::Blocks::mapping_below, crate::proofs::Blocks::list_below, crate::proofs::Blocks::leaf_behind, crate::proofs::Blocks::no_members_leaf, crate::proofs::Blocks::no_items_leaf))]
 fn write_member(
     alloc: Global,
     out: &mut String,
@@ -163,7 +152,7 @@ fn write_items(
 
 // Appends an item, behind its `- `.
 #[cycle(writing)]
-#[tactic(auto, using(crate::proofs::Blocks::mapping_here, crate::proofs::Blocks::list_here, crate::proofs::Blocks::leaf_here))]
+#[tactic(auto, using(crate::proofs::Blocks::mapping_here, crate::proofs::Blocks::list_here, crate::proofs::Blocks::leaf_here, crate::proofs::Blocks::no_members_leaf, crate::proofs::Blocks::no_items_leaf))]
 fn write_item(
     alloc: Global,
     out: &mut String,
@@ -185,15 +174,16 @@ fn write_item(
     }
 }
 
-// Appends a value in flow style, or a text, and ends the line. The lines of a literal text are at
-// this column.
+// Appends a text, or a value that has no lines, and ends the line. The lines of a literal text are
+// at this column.
 fn write_leaf(
     alloc: Global,
     out: &mut String,
     value: &Value,
     column: usize,
 ) -> Result<(), WriteFault>
-    requires { depth (view value.now) ≤ max_depth }
+    requires nests { depth (view value.now) ≤ max_depth }
+    requires leaf { is_leaf (view value.now) ≡ true }
     ensures { OnOk result (GrowsBy (IsLeaf column (view value.now))
         (string_bytes out.old) (string_bytes out.new)) }
 {
@@ -216,7 +206,7 @@ fn write_text(alloc: Global, out: &mut String, text: &str, column: usize) -> Res
     Ok(out.push_str("\n")?)
 }
 
-// Appends a value as JSON has it, likewise.
+// Appends a value that has no lines as JSON has it, likewise.
 #[tactic(auto, using(crate::proofs::Blocks::flow_grows))]
 fn write_flow(
     alloc: Global,
@@ -224,7 +214,8 @@ fn write_flow(
     value: &Value,
     column: usize,
 ) -> Result<(), WriteFault>
-    requires { depth (view value.now) ≤ max_depth }
+    requires nests { depth (view value.now) ≤ max_depth }
+    requires flow { is_flow (view value.now) ≡ true }
     ensures { OnOk result (GrowsBy (IsLeaf column (view value.now))
         (string_bytes out.old) (string_bytes out.new)) }
 {
