@@ -4,5 +4,7 @@ pub mod Depths
 pub mod JsonTexts
 pub mod Lines
 pub mod Odd
+pub mod PlainEnds
+pub mod PlainTexts
 pub mod PrintedTexts
 pub mod Printing

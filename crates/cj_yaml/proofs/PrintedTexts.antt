@@ -8,6 +8,6 @@ use Rattle.cj_yaml.proofs.JsonTexts.{string_again}
 
 -- By how it is printed.
 pub reads_back : PrintedReadsBack
-reads_back t printed u (plain p e) = inl (subst IsPlainText (sym e) p, e)
+reads_back t printed u (plain p l e) = inl (subst IsPlainText (sym e) p, e)
 reads_back t printed u (as_json o e) = inr (ap read e ∙ string_again t)
 reads_back t printed u (coded o e) = inr (ap read e ∙ coded_again t u)

@@ -3,11 +3,12 @@ use Rattle.std.proofs.Common.{◌≡◌, ℕ, List, ◌++◌, true, false, refl}
 use Rattle.serde_json.specs.Data.{string}
 use Rattle.serde_json.specs.Written.{compact_text}
 use Rattle.cj_yaml.specs.Escapes.{coded_text}
-use Rattle.cj_yaml.specs.Words.{IsPlainText, GrowsByPrinted, has_odd, plain, as_json, coded}
+use Rattle.cj_yaml.specs.Words.{IsPlainText, GrowsByPrinted, has_odd, is_plain_line, plain, as_json, coded}
 
 -- For push_text: by a plain one.
-pub grows_plain : (t old new : List ℕ) → IsPlainText t → new ≡ old ++ t → GrowsByPrinted t old new
-grows_plain t old new p e = record { printed = t; grows = e; is = plain p refl }
+pub grows_plain : (t old new : List ℕ) → IsPlainText t → is_plain_line t ≡ true → new ≡ old ++ t
+    → GrowsByPrinted t old new
+grows_plain t old new p l e = record { printed = t; grows = e; is = plain p l refl }
 
 -- For push_text: by one as JSON has it.
 pub grows_as_json : (t old new : List ℕ) → has_odd t ≡ false → new ≡ old ++ compact_text (string t)

@@ -1,6 +1,6 @@
 -- A value in block style (YAML 1.2.2, chapter 8), as one document.
 use Rattle.std.specs.Prelude.{◌≡◌, ◌-◌, ◌+◌, ℕ, List, [], ◌∷◌, ◌++◌, length}
-use Rattle.std.specs.Prelude.{Bool, true, false, cond, not, ◌&&◌, ◌||◌, ◌==◌, slice_index, Some, is_some, codes}
+use Rattle.std.specs.Prelude.{Bool, true, false, cond, nat_le, not, ◌&&◌, ◌||◌, ◌==◌, slice_index, Some, is_some, codes}
 use Rattle.std.specs.List.{repeat}
 use Rattle.json.specs.Lex.{tokens}
 use Rattle.json.specs.Print.{print}
@@ -19,10 +19,24 @@ front n compact = cond compact [] (indent n)
 
 -- ---- literal texts (8.1)
 
--- a text that may be literal: no blank and no line break begins it
+-- it may stand behind another byte of a literal text: it is a character of ASCII that is printed, or
+-- a line break with no space before it
+abbrev pub may_be_in_line : ℕ → ℕ → Bool
+may_be_in_line before b =
+    ((b == 10) || (nat_le 32 b && nat_le b 126)) && not ((b == 10) && (before == 32))
+
+-- behind a byte: each one may stand there, no space ends them, and there is a line break
+abbrev pub are_shown_lines : ℕ → Bool → List ℕ → Bool
+are_shown_lines before lines [] = lines && not (before == 32)
+are_shown_lines before lines (b ∷ rest) =
+    may_be_in_line before b && are_shown_lines b (lines || (b == 10)) rest
+
+-- a text that may be literal: it has several lines, no space and no line break begins it, no line
+-- ends in a space, and each byte is a character of ASCII that is printed
 -- rule: yaml-block
 abbrev pub may_be_literal : List ℕ → Bool
-may_be_literal t = not (slice_index t 0 == 32) && not (slice_index t 0 == 10)
+may_be_literal t =
+    not (slice_index t 0 == 32) && not (slice_index t 0 == 10) && are_shown_lines 10 false t
 
 -- how a literal text begins: `|+` keeps the line breaks at its end, `|` has one, `|-` none
 -- (8.1.1.2)

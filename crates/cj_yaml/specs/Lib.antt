@@ -1,5 +1,6 @@
 pub mod BlockStyle
 pub mod Escapes
+pub mod OnLines
 pub mod Places
 pub mod ReadOf
 pub mod ReadsBack

@@ -1,6 +1,8 @@
 -- What a plain text that begins like no number is (YAML 1.2.2, 10.3.2), and how texts are printed.
 use Rattle.std.specs.Prelude.{ℕ, List, [], ◌∷◌, Bool, true, false, cond, codes, ◌||◌, ◌&&◌, ◌==◌}
-use Rattle.std.specs.Prelude.{◌≡◌, ◌++◌, nat_le, nat_lt, Some, None, slice_index}
+use Rattle.std.specs.Prelude.{◌≡◌, ◌++◌, nat_le, nat_lt, not, Some, None, slice_index}
+use Rattle.std.specs.Char.{is_ascii_alphabetic, is_ascii_alphanumeric}
+use Rattle.std.specs.List.{list_any}
 use Rattle.std.specs.Str.{bytes_eq}
 use Rattle.serde_json.specs.Data.{string}
 use Rattle.serde_json.specs.Written.{compact_text}
@@ -69,10 +71,33 @@ abbrev pub has_odd : List ℕ → Bool
 has_odd [] = false
 has_odd (a ∷ rest) = begins_odd a (slice_index rest 0) (slice_index rest 1) || has_odd rest
 
+-- a byte that may stand in a plain text that is printed, but not everywhere in it (7.3.3)
+abbrev pub is_plain_byte : ℕ → Bool
+is_plain_byte b = is_ascii_alphanumeric b || list_any (λ c. c == b) (codes "_-./+=@% ();^~<$:")
+
+-- it may stand behind another byte of such a text: no `:` is before a space
+abbrev pub may_be_behind : ℕ → ℕ → Bool
+may_be_behind before b = is_plain_byte b && not ((before == 58) && (b == 32))
+
+-- behind a byte: each one may stand there, and neither a space nor a `:` ends them
+abbrev pub is_plain_rest : ℕ → List ℕ → Bool
+is_plain_rest before [] = not (before == 32) && not (before == 58)
+is_plain_rest before (b ∷ rest) = may_be_behind before b && is_plain_rest b rest
+
+-- a letter, `/` or `_`
+abbrev pub begins_plain : ℕ → Bool
+begins_plain b = is_ascii_alphabetic b || (b == 47) || (b == 95)
+
+-- a text that may stand on a line without quotes (7.3.3)
+-- rule: yaml-printed
+abbrev pub is_plain_line : List ℕ → Bool
+is_plain_line t = begins_plain (slice_index t 0) && is_plain_rest 32 t
+
 -- how a text is printed: as it is, as JSON has it, or with codes where it has such characters
 -- rule: yaml-printed
 pub data IsPrinted : List ℕ → List ℕ → Type 0 where
-  plain : {t printed : List ℕ} → IsPlainText t → printed ≡ t → IsPrinted t printed
+  plain : {t printed : List ℕ} → IsPlainText t → is_plain_line t ≡ true → printed ≡ t
+      → IsPrinted t printed
   as_json : {t printed : List ℕ} → has_odd t ≡ false → printed ≡ compact_text (string t)
       → IsPrinted t printed
   coded : {t printed : List ℕ} → has_odd t ≡ true → printed ≡ coded_text t → IsPrinted t printed

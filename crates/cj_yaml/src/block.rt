@@ -1,15 +1,16 @@
 // Block mappings and lists (YAML 1.2.2, chapter 8).
-ghost use Rattle.std.specs.Prelude.{◌≡◌, ◌≤◌, ◌+◌, IfOk};
+ghost use Rattle.std.specs.Prelude.{◌≡◌, ◌≤◌, ◌+◌, ◌==◌, ℕ, List, IfOk, slice_index};
+ghost use Rattle.cj_yaml.specs.OnLines.{StandsPlain};
 ghost use Rattle.serde_json.specs.Data.{depth};
 ghost use Rattle.serde_json.specs.View.{view};
 
 use crate::block_text::read_block_text;
-use crate::chars::{blanks_end, byte, is_gap, last_line, part, trimmed};
+use crate::chars::{blanks_end, byte, is_gap, is_quote, last_line, part};
 use crate::cursor::Cursor;
 use crate::fault::{FaultKind, Stop};
 use crate::grow::{push_item, put_member};
 use crate::notes::Notes;
-use crate::plain::{begins_plain, plain_end, read_plain};
+use crate::plain::{begins_plain, plain_end, plain_on_line, read_plain};
 use crate::properties::{read_name, read_properties};
 use crate::quoted::{quote_end, quoted_text, read_quoted};
 use crate::scalar::{Tag, key_warning, plain_key, plain_value, tagged_value};
@@ -71,9 +72,9 @@ impl<'a> Reader<'a> {
     fn plain_key(&mut self, flow: bool) -> Result<Key, Stop> {
         let at = self.cursor.at;
         let text = self.cursor.text;
-        let stop = plain_end(text, at, flow);
-        let end = trimmed(text, at, stop);
-        let bytes = Vec::from_slice(self.alloc, part(text, at, end))?;
+        let (shown, stop) = plain_on_line(text, at, flow);
+        let end = at.saturating_add(shown.len());
+        let bytes = Vec::from_slice(self.alloc, shown)?;
         let Ok(plain) = String::from_utf8(bytes) else {
             return Err(self.cursor.fault(FaultKind::NotUtf8));
         };
@@ -105,7 +106,7 @@ impl<'a> Reader<'a> {
     // Reads the key at the cursor, and goes to what follows behind blanks.
     pub(crate) fn key(&mut self, flow: bool) -> Result<Key, Stop> {
         let first = self.cursor.peek();
-        let found = if first == b'"' || first == b'\'' {
+        let found = if is_quote(first) {
             self.quoted_key()?
         } else if begins_plain(first, self.cursor.ahead(1), flow) {
             self.plain_key(flow)?
@@ -127,18 +128,17 @@ impl<'a> Reader<'a> {
     }
 
     // Whether a key stands at the cursor, with its `:`.
-    fn is_key(&self) -> bool {
-        let text = self.cursor.text;
-        let at = self.cursor.at;
-        let first = self.cursor.peek();
-        if first != b'"' && first != b'\'' {
-            return byte(text, plain_end(text, at, false)) == b':';
+    fn is_key(&self) -> bool
+        ensures printed { (t rest : List ℕ)
+            → StandsPlain self.now.cursor.text.now self.now.cursor.at t rest
+            → result ≡ (slice_index rest 0 == 58) }
+    {
+        if is_quote(self.cursor.peek()) {
+            is_quoted_key(self.cursor.text, self.cursor.at)
+        } else {
+            let end = plain_end(self.cursor.text, self.cursor.at, false);
+            byte(self.cursor.text, end) == b':'
         }
-        let quote = quote_end(text, at);
-        let behind = blanks_end(text, quote.saturating_add(1));
-        byte(text, behind) == b':'
-            && is_gap(byte(text, behind.saturating_add(1)))
-            && last_line(text, at, quote).is_none()
     }
 
     // Goes to the value of a slot, where there is one: then whether a mapping or list may begin.
@@ -247,7 +247,7 @@ impl<'a> Reader<'a> {
     {
         let at = self.cursor.at;
         let first = self.cursor.peek();
-        if first == b'"' || first == b'\'' {
+        if is_quote(first) {
             let text = read_quoted(self.alloc, &mut self.cursor)?;
             return quoted_value(text, tag, at);
         }
@@ -386,6 +386,15 @@ impl<'a> Reader<'a> {
         let name = read_name(&mut self.cursor)?;
         self.notes.alias(name, room, at)
     }
+}
+
+// Whether a quoted key stands at an offset, with its `:`.
+fn is_quoted_key(text: &[u8], at: usize) -> bool {
+    let quote = quote_end(text, at);
+    let behind = blanks_end(text, quote.saturating_add(1));
+    byte(text, behind) == b':'
+        && is_gap(byte(text, behind.saturating_add(1)))
+        && last_line(text, at, quote).is_none()
 }
 
 // The value of a quoted, literal or folded text.

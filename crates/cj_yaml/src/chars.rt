@@ -1,5 +1,6 @@
 // Bytes by their kind, and where runs of them end (YAML 1.2.2, chapters 5 and 6).
-ghost use Rattle.std.specs.Prelude.{◌≡◌, slice_index};
+ghost use Rattle.std.specs.Prelude.{◌≡◌, ◌+◌, ◌-◌, ◌<◌, ◌++◌, ℕ, List, drop, false, length, slice_index};
+ghost use Rattle.cj_yaml.specs.OnLines.{is_blank, is_break, is_gap, is_quote};
 ghost use Rattle.cj_yaml.specs.Places.{ends_line, mark_len};
 
 // The byte at an offset, 0 behind the end. A text that is read has no 0.
@@ -13,18 +14,31 @@ pub(crate) fn byte(text: &[u8], at: usize) -> u8
 }
 
 // A space or a tab (s-white).
-pub(crate) fn is_blank(b: u8) -> bool {
+pub(crate) fn is_blank(b: u8) -> bool
+    ensures { result ≡ is_blank b }
+{
     b == b' ' || b == b'\t'
 }
 
 // A line break or the end (b-break).
-pub(crate) fn is_break(b: u8) -> bool {
+pub(crate) fn is_break(b: u8) -> bool
+    ensures { result ≡ is_break b }
+{
     b == b'\n' || b == b'\r' || b == 0
 }
 
 // A blank, a line break or the end.
-pub(crate) fn is_gap(b: u8) -> bool {
+pub(crate) fn is_gap(b: u8) -> bool
+    ensures { result ≡ is_gap b }
+{
     is_blank(b) || is_break(b)
+}
+
+// A quote.
+pub(crate) fn is_quote(b: u8) -> bool
+    ensures { result ≡ is_quote b }
+{
+    b == b'"' || b == b'\''
 }
 
 // A character that ends a plain text between brackets (c-flow-indicator).
@@ -33,7 +47,10 @@ pub(crate) fn is_flow_mark(b: u8) -> bool {
 }
 
 // The first offset from there on whose byte is no blank.
-pub(crate) fn blanks_end(text: &[u8], from: usize) -> usize {
+pub(crate) fn blanks_end(text: &[u8], from: usize) -> usize
+    ensures none { from < length text.now → is_blank (slice_index text.now from) ≡ false
+        → result ≡ from }
+{
     for at in from..text.len() {
         if !is_blank(text[at]) {
             return at;
@@ -76,7 +93,10 @@ pub(crate) fn break_len(text: &[u8], at: usize) -> usize {
 }
 
 // The offset of the last byte before `end` that is no blank, and 1; `start` where all are.
-pub(crate) fn trimmed(text: &[u8], start: usize, end: usize) -> usize {
+pub(crate) fn trimmed(text: &[u8], start: usize, end: usize) -> usize
+    ensures none { start < end → is_blank (slice_index text.now (end - 1)) ≡ false
+        → result ≡ end }
+{
     for back in 0..end.saturating_sub(start) {
         let at = end.saturating_sub(back);
         if !is_blank(byte(text, at.saturating_sub(1))) {
@@ -96,7 +116,10 @@ pub(crate) fn is_marker(text: &[u8], at: usize) -> bool {
 }
 
 // A part of the text; empty where the offsets are in no order or past its end.
-pub(crate) fn part(text: &[u8], from: usize, to: usize) -> &[u8] {
+pub(crate) fn part(text: &[u8], from: usize, to: usize) -> &[u8]
+    ensures whole { (t rest : List ℕ) → drop from text.now ≡ t ++ rest → to ≡ from + length t
+        → result.now ≡ t }
+{
     if from <= to && to <= text.len() {
         &text[from..to]
     } else {

@@ -1,3 +1,5 @@
+ghost use Rattle.std.specs.Prelude.{◌≡◌, slice_index};
+
 use crate::chars::{
     blanks_end, break_len, byte, is_blank, is_gap, is_marker, last_line, line_end, spaces_end,
 };
@@ -40,7 +42,9 @@ impl<'a> Cursor<'a> {
         self.at = to;
     }
 
-    pub(crate) fn peek(&self) -> u8 {
+    pub(crate) fn peek(&self) -> u8
+        ensures { result ≡ slice_index self.now.text.now self.now.at }
+    {
         byte(self.text, self.at)
     }
 

@@ -4,7 +4,7 @@ ghost use Rattle.std.specs.Prelude.{◌≡◌, ◌++◌, OnOk, string_bytes, Non
 ghost use Rattle.serde_json.specs.Data.{string};
 ghost use Rattle.serde_json.specs.Written.{compact_text};
 ghost use Rattle.cj_yaml.specs.Escapes.{code_escape, coded_char, coded_text, hex_digit, is_coded};
-ghost use Rattle.cj_yaml.specs.Words.{GrowsByPrinted, IsPlainText, begins_odd, has_odd, word_of};
+ghost use Rattle.cj_yaml.specs.Words.{GrowsByPrinted, IsPlainText, begins_odd, has_odd, is_plain_byte, is_plain_line, is_plain_rest, may_be_behind, word_of};
 ghost use Rattle.cj_yaml.specs.declared.resolve.Plain.TheVariants.{Text};
 
 use crate::chars::byte;
@@ -13,21 +13,28 @@ use serde_json::Value;
 use std::alloc::{AllocError, Global};
 
 // Whether a byte may stand anywhere in a plain text that is printed, but at its end.
-fn is_plain_byte(b: u8) -> bool {
-    b.is_ascii_alphanumeric()
-        || matches!(
-            b,
-            b'_' | b'-' | b'.' | b'/' | b'+' | b'=' | b'@' | b'%' | b' '
-        )
-        || matches!(b, b'(' | b')' | b';' | b'^' | b'~' | b'<' | b'$' | b':')
+fn is_plain_byte(b: u8) -> bool
+    ensures { result ≡ is_plain_byte b }
+{
+    b.is_ascii_alphanumeric() || b"_-./+=@% ();^~<$:".contains(&b)
+}
+
+// Whether a byte may stand behind another one of such a text: no `:` is before a space.
+fn may_be_behind(before: u8, b: u8) -> bool
+    ensures { result ≡ may_be_behind before b }
+{
+    is_plain_byte(b) && !(before == b':' && b == b' ')
 }
 
 // Whether each byte may stand in a plain text, and no `:` is before a space or the end, and no
 // space at the end.
-fn are_plain(bytes: &[u8]) -> bool {
+#[tactic(auto, using(crate::proofs::PlainTexts::plain_stops, crate::proofs::PlainTexts::plain_goes_on, crate::proofs::PlainTexts::plain_ends))]
+fn are_plain(bytes: &[u8]) -> bool
+    ensures { result ≡ is_plain_rest 32 bytes.now }
+{
     let mut before = b' ';
     for b in bytes {
-        if !is_plain_byte(*b) || (before == b':' && *b == b' ') {
+        if !may_be_behind(before, *b) {
             return false;
         }
         before = *b;
@@ -38,11 +45,12 @@ fn are_plain(bytes: &[u8]) -> bool {
 // Whether a text reads back as itself where it is printed without quotes. Some texts that would are
 // quoted none the less.
 fn is_plain(text: &str) -> bool
-    ensures { OnTrue result (IsPlainText text.now) }
+    ensures word { OnTrue result (IsPlainText text.now) }
+    ensures line { OnTrue result (is_plain_line text.now ≡ true) }
 {
     let first = byte(text.as_bytes(), 0);
     let begins = first.is_ascii_alphabetic() || first == b'/' || first == b'_';
-    begins && !begins_number(text) && is_word(text) && are_plain(text.as_bytes())
+    begins && are_plain(text.as_bytes()) && !begins_number(text) && is_word(text)
 }
 
 // Whether a plain text is a text, in YAML 1.1 too.
@@ -88,7 +96,8 @@ pub(crate) fn push_text(alloc: Global, out: &mut String, text: &str) -> Result<(
 
 // Appends a text without quotes.
 fn push_plain(out: &mut String, text: &str) -> Result<(), AllocError>
-    requires { IsPlainText text.now }
+    requires word { IsPlainText text.now }
+    requires line { is_plain_line text.now ≡ true }
     ensures { OnOk result (GrowsByPrinted text.now (string_bytes out.old) (string_bytes out.new)) }
 {
     out.push_str(text)?;

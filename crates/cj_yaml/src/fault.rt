@@ -114,18 +114,32 @@ pub(crate) struct Stop {
 }
 
 impl Stop {
-    pub(crate) fn new(kind: FaultKind, at: usize) -> Stop {
+    ghost use Rattle.std.specs.Prelude.{◌≡◌};
+
+    pub(crate) fn new(kind: FaultKind, at: usize) -> Stop
+        ensures { result.kind ≡ kind }
+    {
         Stop { kind, at }
     }
 }
 
 impl From<AllocError> for Stop {
+    ghost use Rattle.std.specs.Prelude.{◌≡◌};
+    ghost use Rattle.cj_yaml.specs.declared.fault.FaultKind.TheVariants.{OutOfMemory};
+
+    ghost from_gives = { λ _ stop. stop.kind ≡ OutOfMemory };
+
     fn from(_refused: AllocError) -> Stop {
         Stop::new(FaultKind::OutOfMemory, 0)
     }
 }
 
 impl<T: Drop> From<AllocFailed<T>> for Stop {
+    ghost use Rattle.std.specs.Prelude.{◌≡◌};
+    ghost use Rattle.cj_yaml.specs.declared.fault.FaultKind.TheVariants.{OutOfMemory};
+
+    ghost from_gives = { λ _ stop. stop.kind ≡ OutOfMemory };
+
     fn from(_refused: AllocFailed<T>) -> Stop {
         Stop::new(FaultKind::OutOfMemory, 0)
     }

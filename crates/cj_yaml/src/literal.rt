@@ -1,7 +1,6 @@
 // Texts of several lines, as they are printed (YAML 1.2.2, 8.1).
-ghost use Rattle.std.specs.Bool.{OnTrue};
-ghost use Rattle.std.specs.Prelude.{◌≡◌, [], ◌∷◌, ◌++◌, ◌&&◌, ◌==◌, cond, not, IfOk, OnOk, string_bytes, true};
-ghost use Rattle.cj_yaml.specs.BlockStyle.{indent, literal_head, literal_lines, literal_text, may_be_literal};
+ghost use Rattle.std.specs.Prelude.{◌≡◌, [], ◌∷◌, ◌++◌, ◌&&◌, ◌==◌, ◌||◌, cond, nat_le, not, false, IfOk, OnOk, string_bytes, true};
+ghost use Rattle.cj_yaml.specs.BlockStyle.{are_shown_lines, indent, literal_head, literal_lines, literal_text, may_be_in_line, may_be_literal};
 
 use crate::chars::byte;
 use crate::write_fault::WriteFault;
@@ -10,20 +9,35 @@ use std::alloc::{AllocError, Global};
 // Whether a text is printed in lines: it has some, none begins it with a blank or is empty at its
 // front, none ends in a blank, and no byte needs an escape.
 pub(crate) fn is_literal(text: &str) -> bool
-    ensures { OnTrue result (may_be_literal text.now ≡ true) }
+    ensures { result ≡ may_be_literal text.now }
 {
     let bytes = text.as_bytes();
     let first = byte(bytes, 0);
     first != b' ' && first != b'\n' && are_shown_lines(bytes)
 }
 
+// Whether a byte may stand behind another one of such a text: it is printed as it is, or is a line
+// break with no space before it.
+fn may_be_in_line(before: u8, b: u8) -> bool
+    ensures { result ≡ may_be_in_line before b }
+{
+    if b == b'\n' {
+        before != b' '
+    } else {
+        32 <= b && b <= 126
+    }
+}
+
 // Whether bytes have a line break, none behind a space, no space at their end, and none that needs
 // an escape.
-fn are_shown_lines(bytes: &[u8]) -> bool {
+#[tactic(auto, using(crate::proofs::PlainTexts::lines_stop, crate::proofs::PlainTexts::lines_go_on, crate::proofs::PlainTexts::lines_end))]
+fn are_shown_lines(bytes: &[u8]) -> bool
+    ensures { result ≡ are_shown_lines 10 false bytes.now }
+{
     let mut before = b'\n';
     let mut lines = false;
     for b in bytes {
-        if (*b < 32 && *b != b'\n') || *b > 126 || (*b == b'\n' && before == b' ') {
+        if !may_be_in_line(before, *b) {
             return false;
         }
         lines = lines || *b == b'\n';

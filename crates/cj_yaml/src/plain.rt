@@ -1,4 +1,8 @@
 // Plain texts (YAML 1.2.2, 7.3.3).
+ghost use Rattle.std.specs.Prelude.{◌≡◌, ◌+◌, ℕ, List, false, length, true};
+ghost use Rattle.cj_yaml.specs.Words.{begins_plain};
+ghost use Rattle.cj_yaml.specs.OnLines.{StandsPlain, is_gap, stops_plain};
+
 use crate::chars::{
     blanks_end, break_len, byte, is_blank, is_flow_mark, is_gap, is_marker, part, spaces_end,
     trimmed,
@@ -8,7 +12,9 @@ use crate::fault::{FaultKind, Stop};
 use std::alloc::Global;
 
 // Whether a plain text may begin with this byte, before the next one.
-pub(crate) fn begins_plain(first: u8, next: u8, flow: bool) -> bool {
+pub(crate) fn begins_plain(first: u8, next: u8, flow: bool) -> bool
+    ensures printed { begins_plain first ≡ true → result ≡ true }
+{
     match first {
         b'-' | b'?' | b':' => !is_gap(next) && !(flow && is_flow_mark(next)),
         b',' | b'[' | b']' | b'{' | b'}' | b'#' | b'&' | b'*' | b'!' | b'|' | b'>' => false,
@@ -18,24 +24,44 @@ pub(crate) fn begins_plain(first: u8, next: u8, flow: bool) -> bool {
 }
 
 // Whether the `:` before this byte ends a key.
-pub(crate) fn ends_key(next: u8, flow: bool) -> bool {
+pub(crate) fn ends_key(next: u8, flow: bool) -> bool
+    ensures { flow ≡ false → result ≡ is_gap next }
+{
     is_gap(next) || (flow && is_flow_mark(next))
+}
+
+// Whether a plain text ends at this byte, before the next one; whether a blank is before it.
+fn stops_plain(b: u8, next: u8, blank: bool, flow: bool) -> bool
+    ensures { flow ≡ false → result ≡ stops_plain b next blank }
+{
+    let is_end = b == b'\n' || b == b'\r' || (b == b':' && ends_key(next, flow));
+    is_end || (b == b'#' && blank) || (flow && is_flow_mark(b))
 }
 
 // The offset on the line at which a plain text that begins there ends: at a `:` that ends a key, a
 // comment, the line's end, or a bracket or comma between brackets.
-pub(crate) fn plain_end(text: &[u8], from: usize, flow: bool) -> usize {
+pub(crate) fn plain_end(text: &[u8], from: usize, flow: bool) -> usize
+    ensures printed { (t rest : List ℕ) → flow ≡ false → StandsPlain text.now from t rest
+        → result ≡ from + length t }
+{
     let mut blank = false;
     for at in from..text.len() {
-        match text[at] {
-            b'\n' | b'\r' => return at,
-            b':' if ends_key(byte(text, at.saturating_add(1)), flow) => return at,
-            b'#' if blank => return at,
-            b if flow && is_flow_mark(b) => return at,
-            b => blank = is_blank(b),
+        if stops_plain(text[at], byte(text, at + 1), blank, flow) {
+            return at;
         }
+        blank = is_blank(text[at]);
     }
     text.len()
+}
+
+// The plain text that begins at an offset, as far as it stands on its line, and where it ends.
+pub(crate) fn plain_on_line(text: &[u8], at: usize, flow: bool) -> (&[u8], usize)
+    ensures printed { (t rest : List ℕ) → flow ≡ false → StandsPlain text.now at t rest
+        → (result.0.now ≡ t) × (result.1 ≡ at + length t) }
+{
+    let end = plain_end(text, at, flow);
+    let shown = trimmed(text, at, end);
+    (part(text, at, shown), end)
 }
 
 // Where a plain text goes on behind its line.
@@ -84,9 +110,9 @@ pub(crate) fn read_plain(
 ) -> Result<String, Stop> {
     let text = cursor.text;
     let start = cursor.at;
-    let end = plain_end(text, start, flow);
+    let (first, end) = plain_on_line(text, start, flow);
     let mut bytes = Vec::new(alloc);
-    bytes.extend_from_slice(part(text, start, trimmed(text, start, end)))?;
+    bytes.extend_from_slice(first)?;
     cursor.at = end;
     for _ in end..text.len() {
         if break_len(text, cursor.at) == 0 {
@@ -116,7 +142,7 @@ fn append_line(
         cursor.at = found.at;
         return Ok(());
     }
-    let end = plain_end(text, found.at, flow);
+    let (content, end) = plain_on_line(text, found.at, flow);
     if byte(text, end) == b':' {
         return Err(Stop::new(FaultKind::MappingHere, found.at));
     }
@@ -126,7 +152,7 @@ fn append_line(
     for _ in 0..found.empty {
         bytes.push(b'\n')?;
     }
-    bytes.extend_from_slice(part(text, found.at, trimmed(text, found.at, end)))?;
+    bytes.extend_from_slice(content)?;
     cursor.begin_line(found.line);
     cursor.at = end;
     Ok(())

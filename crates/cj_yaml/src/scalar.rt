@@ -1,6 +1,6 @@
-ghost use Rattle.std.specs.Prelude.{◌≡◌, IfOk, IsOkAnd, string_bytes};
+ghost use Rattle.std.specs.Prelude.{◌≡◌, IfOk, IsOkAnd, None, string_bytes, true};
 ghost use Rattle.serde_json.specs.Data.{depth, string};
-ghost use Rattle.cj_yaml.specs.Words.{IsPlainText};
+ghost use Rattle.cj_yaml.specs.Words.{IsPlainText, is_plain_line};
 ghost use Rattle.serde_json.specs.View.{view};
 
 use crate::fault::{FaultKind, Stop};
@@ -84,7 +84,10 @@ fn float_value(number: &Number, at: usize) -> Result<Value, Stop>
 }
 
 // The text of a plain key: a whole number or boolean becomes the text that JSON has for it.
-pub(crate) fn plain_key(alloc: Global, text: String, at: usize) -> Result<String, Stop> {
+pub(crate) fn plain_key(alloc: Global, text: String, at: usize) -> Result<String, Stop>
+    ensures text { IsPlainText (string_bytes text) → is_plain_line (string_bytes text) ≡ true
+        → IsOkAnd result (λ s. s ≡ text) }
+{
     match resolve_plain(text.as_str()) {
         Plain::Null => Err(Stop::new(FaultKind::NullKey, at)),
         Plain::Bool(true) => Ok(String::from_str(alloc, "true")?),
@@ -109,7 +112,9 @@ fn number_key(alloc: Global, number: Number, at: usize) -> Result<String, Stop> 
 }
 
 // What is to be told of a plain key.
-pub(crate) fn key_warning(text: &str) -> Option<WarningKind> {
+pub(crate) fn key_warning(text: &str) -> Option<WarningKind>
+    ensures text { IsPlainText text.now → result ≡ None }
+{
     match resolve_plain(text) {
         Plain::Octal(_) => Some(WarningKind::Octal),
         Plain::Text(kind) => kind,

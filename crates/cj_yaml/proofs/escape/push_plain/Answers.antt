@@ -5,5 +5,5 @@ use Rattle.cj_yaml.proofs.escape.push_plain.Goals as goal
 
 pub returns : goal.returns
 returns c =
-    grows_plain c.args.text.now (string_bytes c.args.out.now) (string_bytes c.push_str.new.self) c.requires
-    c.in_ok-push_str.ensures.bytes
+    grows_plain c.args.text.now (string_bytes c.args.out.now) (string_bytes c.push_str.new.self) c.requires.word
+    c.requires.line c.in_ok-push_str.ensures.bytes
