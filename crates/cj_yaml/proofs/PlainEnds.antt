@@ -202,7 +202,8 @@ no_quote s at first t rest p e =
     let some = (last_shown t (and_parts (begins_plain (get_or t 0 0)) (is_plain_rest 32 t) p.plain).1).0 in
     let is : first ≡ get_or t 0 0 =
     e ∙ byte_at s (t ++ rest) at 0 at (omega arith) p.there ∙ front_byte t rest 0 some in
-    ap is_quote is ∙ begins_no_quote (get_or t 0 0) (and_parts (begins_plain (get_or t 0 0)) (is_plain_rest 32 t) p.plain).0
+    ap is_quote is
+    ∙ begins_no_quote (get_or t 0 0) (and_parts (begins_plain (get_or t 0 0)) (is_plain_rest 32 t) p.plain).0
 
 -- For is_key: what stands behind a plain text.
 pub byte_behind : (s : List ℕ) (at end b : ℕ) (t rest : List ℕ) → StandsPlain s at t rest → end ≡ at + length t

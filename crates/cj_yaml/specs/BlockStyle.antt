@@ -19,8 +19,8 @@ front n compact = cond compact [] (indent n)
 
 -- ---- literal texts (8.1)
 
--- it may stand behind another byte of a literal text: it is a character of ASCII that is printed, or
--- a line break with no space before it
+-- it may stand behind another byte of a literal text: it is a character of ASCII that is printed,
+-- or a line break with no space before it
 abbrev pub may_be_in_line : ℕ → ℕ → Bool
 may_be_in_line before b =
     ((b == 10) || (nat_le 32 b && nat_le b 126)) && not ((b == 10) && (before == 32))
@@ -57,8 +57,8 @@ literal_text n t = literal_head t ++ literal_lines n true t
 
 -- ---- values
 
--- a value that block style has no lines for: null, a boolean, a number, and a list or a mapping with
--- nothing in it
+-- a value that block style has no lines for: null, a boolean, a number, and a list or a mapping
+-- with nothing in it
 -- rule: yaml-block
 abbrev pub is_flow : Data → Bool
 is_flow null = true

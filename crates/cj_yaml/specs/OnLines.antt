@@ -16,8 +16,8 @@ is_gap b = is_blank b || is_break b
 abbrev pub is_quote : ℕ → Bool
 is_quote b = (b == 34) || (b == 39)
 
--- a plain text ends at this byte, before the next one: at a line break, at a `:` before a gap, or at
--- a `#` behind a blank
+-- a plain text ends at this byte, before the next one: at a line break, at a `:` before a gap, or
+-- at a `#` behind a blank
 abbrev pub stops_plain : ℕ → ℕ → Bool → Bool
 stops_plain b next blank =
     (b == 10) || (b == 13) || ((b == 58) && is_gap next) || ((b == 35) && blank)

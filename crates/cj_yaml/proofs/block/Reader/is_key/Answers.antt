@@ -8,7 +8,8 @@ returns-then-is_quote c =
     record {
       printed = λ t rest stands.
           absurd (true≢false (sym (sym c.is_quote.ensures ∙ c.if-is_quote.true)
-          ∙ no_quote c.args.self.now.cursor.text.now c.args.self.now.cursor.at c.peek.result t rest stands c.peek.ensures));
+          ∙ no_quote c.args.self.now.cursor.text.now c.args.self.now.cursor.at c.peek.result t rest stands
+          c.peek.ensures));
     }
 
 pub returns-else-is_quote : goal.returns-else-is_quote
