@@ -3,6 +3,7 @@ pub mod Comes
 pub mod LineMarks
 pub mod Nearness
 pub mod NextLemmas
+pub mod ObjectLists
 pub mod PreviousLemmas
 pub mod Ruled
 pub mod Zones

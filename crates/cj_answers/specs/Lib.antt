@@ -14,6 +14,7 @@ pub mod Marks
 pub mod Moments
 pub mod Nearest
 pub mod NextText
+pub mod Objects
 pub mod Outcome
 pub mod Previous
 pub mod PreviousText

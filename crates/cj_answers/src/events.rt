@@ -1,8 +1,7 @@
 // What a watch of the API server prints: an event after another, each with its type and an object.
-ghost use Rattle.std.specs.Prelude.{◌≡◌, true, is_some};
-ghost use Rattle.std.specs.Bool.{OnTrue};
+ghost use Rattle.std.specs.Prelude.{◌≡◌};
 ghost use Rattle.serde_json.specs.View.{view};
-ghost use Rattle.cj_answers.specs.Inputs.{is_event};
+ghost use Rattle.cj_answers.specs.Objects.{event_named, event_of};
 
 use serde_json::Value;
 
@@ -17,7 +16,9 @@ pub(crate) enum Event {
     Mark,
 }
 
-fn event_named(name: &str) -> Option<Event> {
+fn event_named(name: &str) -> Option<Event>
+    ensures { result ≡ event_named name.now }
+{
     match name {
         "ADDED" | "MODIFIED" => Some(Event::Seen),
         "DELETED" => Some(Event::Deleted),
@@ -26,29 +27,12 @@ fn event_named(name: &str) -> Option<Event> {
     }
 }
 
-// Whether it has the members of an event.
-fn has_members(value: &Value) -> bool
-    ensures { result ≡ is_event (view value.now) }
+/// What a value says as an event of a watch, if it is one.
+pub(crate) fn event_of(value: &Value) -> Option<Event>
+    ensures { result ≡ event_of (view value.now) }
 {
-    let is_typed = value.get("type").is_some();
-    let has_object = value.get("object").is_some();
-    is_typed && has_object
-}
-
-fn type_of(value: &Value) -> Option<Event> {
     if !value.get("object")?.is_object() {
         return None;
     }
     event_named(value.get("type")?.as_str()?)
-}
-
-/// What a value says as an event of a watch, if it is one.
-pub(crate) fn event_of(value: &Value) -> Option<Event>
-    ensures { OnTrue (is_some result) (is_event (view value.now) ≡ true) }
-{
-    if has_members(value) {
-        type_of(value)
-    } else {
-        None
-    }
 }

@@ -1,16 +1,19 @@
 // What the commands take for the bytes of an input: JSON as it is, and JSON of what YAML says, or
 // several values, an array or a watch.
-ghost use Rattle.std.specs.Prelude.{◌≡◌, [], true, IfOk, IfSome, string_bytes};
+ghost use Rattle.std.specs.Prelude.{◌≡◌, List, [], ◌∷◌, map, true, IfOk, IfSome, string_bytes};
 ghost use Rattle.std.specs.Bool.{OnTrue};
+ghost use Rattle.std.specs.List.{filter, list_any};
 ghost use Rattle.serde_json.specs.Data.{Data};
 ghost use Rattle.serde_json.specs.View.{view};
 ghost use Rattle.cj_manifest.specs.Reading.{IsNoValue, Reads};
+ghost use Rattle.cj_yaml.specs.ReadOf.{values};
 ghost use Rattle.cj_answers.specs.declared.json.TextShape.TheVariants.{Plain};
-ghost use Rattle.cj_answers.specs.Inputs.{IsTaken, IsTextOf, is_several};
+ghost use Rattle.cj_answers.specs.Inputs.{IsTaken, IsTextOf};
 ghost use Rattle.cj_answers.specs.Json.{shape_of};
+ghost use Rattle.cj_answers.specs.Objects.{AreOf, IsListFor, IsTakenFor, has_object, is_alone, is_object, is_said, is_several};
 
 use crate::events::event_of;
-use crate::items::{Items, Passed, is_other, list_value};
+use crate::items::{Passed, is_other, list_for};
 use crate::json::{TextShape, may_be_yaml, shape_of};
 use crate::json_texts::{is_one_object, values_in};
 use crate::shapes::shape_words;
@@ -106,15 +109,33 @@ fn push_passed(alloc: Global, said: &mut String, passed: Passed) -> Result<(), F
 }
 
 // Whether a value is an object of Kubernetes, which has a kind, or an event of a watch.
-fn is_object(value: &Value) -> bool {
+fn is_object(value: &Value) -> bool
+    ensures { result ≡ is_object (view value.now) }
+{
     let is_kind = value.get("kind").and_then(Value::as_str).is_some();
     is_kind || event_of(value).is_some()
 }
 
+// Whether one of the values is such an object.
+#[tactic(auto, using(crate::proofs::ObjectLists::any_found, crate::proofs::ObjectLists::any_passed, crate::proofs::ObjectLists::any_over))]
+fn any_object(values: &[Value]) -> bool
+    ensures { result ≡ list_any is_object (map view values.now) }
+{
+    for value in values {
+        if is_object(value) {
+            return true;
+        }
+    }
+    false
+}
+
 // Whether a value is such an object, or an array with one.
-fn has_object(value: &Value) -> bool {
+#[tactic(auto, using(crate::proofs::ObjectLists::array_has_object))]
+fn has_object(value: &Value) -> bool
+    ensures { result ≡ has_object (view value.now) }
+{
     match value {
-        Value::Array(items) => items.iter().any(is_object),
+        Value::Array(items) => any_object(items.as_slice()),
         _ => is_object(value),
     }
 }
@@ -122,7 +143,7 @@ fn has_object(value: &Value) -> bool {
 // Whether the objects in a value are taken for it: it is an array with an object, or an event of a
 // watch.
 fn is_several(value: &Value) -> bool
-    ensures { OnTrue result (is_several (view value.now) ≡ true) }
+    ensures { result ≡ is_several (view value.now) }
 {
     if value.is_array() {
         has_object(value)
@@ -136,18 +157,18 @@ fn objects_of(
     alloc: Global,
     values: Vec<Value>,
     mut said: String,
-) -> Result<(Value, String), Failure> {
-    let mut items = Items::new(alloc);
-    for value in values {
-        items.push(alloc, value)?;
-    }
-    push_passed(alloc, &mut said, items.passed())?;
-    Ok((list_value(alloc, items)?, said))
+) -> Result<(Value, String), Failure>
+    ensures { IfOk result (λ t. IsListFor (map view values.items) (view t.0)) }
+{
+    let (list, passed) = list_for(alloc, values)?;
+    push_passed(alloc, &mut said, passed)?;
+    Ok((list, said))
 }
 
 // What is taken for several values.
 fn of_values(alloc: Global, values: Vec<Value>, said: String) -> Result<JsonInput, Failure>
-    ensures { IfOk result (λ t. (d : Data) × IsTextOf d t.bytes.items) }
+    ensures { IfOk result (λ t. (d : Data) × IsListFor (map view values.items) d
+        × IsTextOf d t.bytes.items) }
 {
     let (value, said) = objects_of(alloc, values, said)?;
     let bytes = text_of(alloc, &value)?;
@@ -156,7 +177,8 @@ fn of_values(alloc: Global, values: Vec<Value>, said: String) -> Result<JsonInpu
 
 // What is taken for one value whose objects are.
 fn of_several(alloc: Global, value: Value) -> Result<JsonInput, Failure>
-    ensures { IfOk result (λ t. (d : Data) × IsTextOf d t.bytes.items) }
+    ensures { IfOk result (λ t. (d : Data) × IsListFor (view value ∷ []) d
+        × IsTextOf d t.bytes.items) }
 {
     let mut values = Vec::new(alloc);
     values.push(value)?;
@@ -164,7 +186,10 @@ fn of_several(alloc: Global, value: Value) -> Result<JsonInput, Failure>
 }
 
 // The values of documents that say anything.
-fn document_values(alloc: Global, documents: Vec<Document>) -> Result<Vec<Value>, Failure> {
+#[tactic(auto, using(crate::proofs::ObjectLists::said_on, crate::proofs::ObjectLists::null_on))]
+fn document_values(alloc: Global, documents: Vec<Document>) -> Result<Vec<Value>, Failure>
+    ensures { IfOk result (λ v. map view v.items ≡ filter is_said (values documents.items)) }
+{
     let mut values = Vec::new(alloc);
     for document in documents {
         let Document { value, .. } = document;
@@ -175,27 +200,39 @@ fn document_values(alloc: Global, documents: Vec<Document>) -> Result<Vec<Value>
     Ok(values)
 }
 
+// Whether the values are one that is taken as it is.
+fn is_alone(values: &[Value]) -> bool
+    ensures { result ≡ is_alone (map view values.now) }
+{
+    match values {
+        [value] => !is_several(value) && !is_other(value),
+        _ => false,
+    }
+}
+
 // The value of one document, or the list of the objects of several.
+#[tactic(auto, using(crate::proofs::ObjectLists::none_alone))]
 fn documents_value(
     alloc: Global,
     values: Vec<Value>,
     said: String,
-) -> Result<(Value, String), Failure> {
+) -> Result<(Value, String), Failure>
+    ensures { IfOk result (λ t. IsTakenFor (map view values.items) (view t.0)) }
+{
     let mut values = values;
-    if values.len() == 1 {
-        if let Some(value) = values.pop() {
-            if !is_several(&value) && !is_other(&value) {
-                return Ok((value, said));
-            }
-            values.push(value)?;
-        }
+    if !is_alone(values.as_slice()) {
+        return objects_of(alloc, values, said);
     }
-    objects_of(alloc, values, said)
+    match values.pop() {
+        Some(value) => Ok((value, said)),
+        None => Ok((Value::Null, said)),
+    }
 }
 
 // What is taken for documents, at least one of which is a mapping or a list.
 fn of_documents(alloc: Global, documents: Vec<Document>) -> Result<JsonInput, Failure>
-    ensures { IfOk result (λ t. (d : Data) × IsTextOf d t.bytes.items) }
+    ensures { IfOk result (λ t. (d : Data)
+        × IsTakenFor (filter is_said (values documents.items)) d × IsTextOf d t.bytes.items) }
 {
     let said = warned(alloc, documents.as_slice())?;
     let values = document_values(alloc, documents)?;
@@ -245,7 +282,8 @@ fn of_plain(alloc: Global, bytes: Vec<u8>) -> Result<JsonInput, Failure>
 
 // What is taken for values one behind another; none where they aren't, or none has an object.
 fn of_texts(alloc: Global, text: &[u8]) -> Result<Option<JsonInput>, Failure>
-    ensures { IfOk result (λ o. IfSome o (λ t. (d : Data) × IsTextOf d t.bytes.items)) }
+    ensures { IfOk result (λ o. IfSome o (λ t. (ds : List Data) × AreOf text.now ds
+        × ((d : Data) × IsListFor ds d × IsTextOf d t.bytes.items))) }
 {
     match values_in(alloc, text)? {
         Some(values) if values.iter().any(has_object) => {

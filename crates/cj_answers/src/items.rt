@@ -1,5 +1,13 @@
 // The list that the objects of several values are taken for: documents of YAML, values of JSON one
 // behind another, arrays, lists, and what a watch prints.
+ghost use Rattle.std.specs.Prelude.{◌≡◌, ◌++◌, ◌∷◌, [], ◌&&◌, Some, None, IfOk, OnOk, false, true, flat_map, is_some, map, not, option_map, string_bytes, unwrap_or, codes};
+ghost use Rattle.std.specs.List.{list_all};
+ghost use Rattle.serde_json.specs.Data.{Data, no_items, put, string};
+ghost use Rattle.serde_json.specs.Find.{as_array};
+ghost use Rattle.serde_json.specs.View.{items_view, members_view, view};
+ghost use Rattle.cj_answers.specs.Objects.{IsListFor, TakesIn, are_said_once, event_objects, has_uid, is_known, is_passed, items_at, items_kind, items_of_kind, kept, left_of, list_kind, list_objects, list_of, list_once, listed, meta_at, objects_in, objects_said, put_text, says_once, text_at, typed, with_type};
+ghost use Rattle.cj_answers.specs.declared.events.Event.TheVariants.{Seen};
+
 use crate::events::{Event, event_of};
 use cj_io::Failure;
 use cj_manifest::present;
@@ -18,9 +26,9 @@ pub(crate) struct Passed {
     pub marks: u64,
 }
 
-/// The objects of a stream of values, each as it was seen last.
+// The objects of a stream of values, each as it was seen last.
 #[derive(Drop)]
-pub(crate) struct Items {
+struct Items {
     // (none where the object was deleted)
     values: Vec<Option<Value>>,
     // (where an object stands, by what tells it from others)
@@ -28,32 +36,35 @@ pub(crate) struct Items {
     passed: Passed,
 }
 
-// What a list has: its items, and what it says of them all.
-#[derive(Drop)]
-struct ListParts {
-    items: Vec<Value>,
-    kind: Option<&'static str>,
-    version: Option<String>,
-}
-
 // The text of a member.
-fn text_at<'v>(value: &'v Value, name: &str) -> Option<&'v str> {
+fn text_at<'v>(value: &'v Value, name: &str) -> Option<&'v str>
+    ensures { option_map (λ s. s.now) result ≡ text_at name.now (view value.now) }
+{
     present(value, name)?.as_str()
 }
 
 // A text of the metadata.
-fn meta_at<'v>(value: &'v Value, name: &str) -> Option<&'v str> {
+fn meta_at<'v>(value: &'v Value, name: &str) -> Option<&'v str>
+    ensures { option_map (λ s. s.now) result ≡ meta_at name.now (view value.now) }
+{
     text_at(present(value, "metadata")?, name)
 }
 
+// Whether commands look at objects of this kind.
+fn is_known(kind: &str) -> bool
+    ensures { result ≡ is_known kind.now }
+{
+    let is_ours = kind == "CronJob" || kind == "Job";
+    let is_list = kind == "List" || kind == "CronJobList" || kind == "JobList";
+    is_ours || is_list
+}
+
 // Whether it is an object of a kind that no command looks at. What says no kind isn't.
-pub(crate) fn is_other(value: &Value) -> bool {
+pub(crate) fn is_other(value: &Value) -> bool
+    ensures { result ≡ is_passed (view value.now) }
+{
     match text_at(value, "kind") {
-        Some(kind) => {
-            let is_ours = kind == "CronJob" || kind == "Job";
-            let is_list = kind == "List" || kind == "CronJobList" || kind == "JobList";
-            !is_ours && !is_list
-        }
+        Some(kind) => !is_known(kind),
         None => false,
     }
 }
@@ -66,7 +77,9 @@ fn is_near(value: &Value) -> bool {
 }
 
 // The uid of an object, if it has one.
-fn uid_of(value: &Value) -> Option<&str> {
+fn uid_of(value: &Value) -> Option<&str>
+    ensures { is_some result ≡ has_uid (view value.now) }
+{
     match meta_at(value, "uid") {
         Some("") | None => None,
         Some(uid) => Some(uid),
@@ -89,7 +102,9 @@ fn identity(alloc: Global, value: &Value) -> Result<Option<String>, Failure> {
 }
 
 // The kind of the items of a list of this kind, if the list says it; none for what is no list.
-fn items_kind(kind: &str) -> Option<Option<&'static str>> {
+fn items_kind(kind: &str) -> Option<Option<&'static str>>
+    ensures { option_map (λ k. option_map (λ s. s.now) k) result ≡ items_kind kind.now }
+{
     match kind {
         "List" => Some(None),
         "CronJobList" => Some(Some("CronJob")),
@@ -98,37 +113,51 @@ fn items_kind(kind: &str) -> Option<Option<&'static str>> {
     }
 }
 
-// The items of a value, if it is a list.
-fn list_parts(alloc: Global, value: &mut Value) -> Result<Option<ListParts>, Failure> {
-    let Some(kind) = text_at(value, "kind").and_then(items_kind) else {
-        return Ok(None);
-    };
-    let version = match text_at(value, "apiVersion") {
-        Some(version) => Some(String::from_str(alloc, version)?),
-        None => None,
-    };
-    let Some(items) = value.get_mut("items") else {
-        return Ok(None);
-    };
-    if !items.is_array() {
-        return Ok(None);
+// The kind of the items of a list, if the value is one.
+fn list_kind(value: &Value) -> Option<Option<&'static str>>
+    ensures { option_map (λ k. option_map (λ s. s.now) k) result ≡ list_kind (view value.now) }
+{
+    if !value.get("items")?.is_array() {
+        return None;
     }
-    match items.take() {
-        Value::Array(items) => Ok(Some(ListParts {
-            items,
-            kind,
-            version,
-        })),
-        _ => Ok(None),
+    items_kind(text_at(value, "kind")?)
+}
+
+// The values of an array; none of another value.
+#[tactic(auto, using(crate::proofs::ObjectLists::array_listed))]
+fn array_items(alloc: Global, value: Value) -> Vec<Value>
+    ensures { map view result.items ≡ listed (unwrap_or (as_array (view value)) no_items) }
+{
+    match value {
+        Value::Array(items) => items,
+        Value::Null => Vec::new(alloc),
+        Value::Bool(_) => Vec::new(alloc),
+        Value::Number(_) => Vec::new(alloc),
+        Value::String(_) => Vec::new(alloc),
+        Value::Object(_) => Vec::new(alloc),
     }
 }
 
+// What stands as the items of a list.
+fn into_items(alloc: Global, mut list: Value) -> Vec<Value>
+    ensures { map view result.items ≡ listed (unwrap_or (items_at (view list)) no_items) }
+{
+    match list.get_mut("items") {
+        Some(items) => array_items(alloc, items.take()),
+        None => Vec::new(alloc),
+    }
+}
+
+#[tactic(auto, using(crate::proofs::ObjectLists::member_put))]
 fn put(
     alloc: Global,
     members: &mut Map<String, Value>,
     name: &str,
     value: Value,
-) -> Result<(), Failure> {
+) -> Result<(), Failure>
+    ensures { OnOk result (members_view members.new.entries
+        ≡ put name.now (view value) (members_view members.old.entries)) }
+{
     let name = String::from_str(alloc, name)?;
     drop(members.insert(name, value)?);
     Ok(())
@@ -139,8 +168,29 @@ fn put_text(
     members: &mut Map<String, Value>,
     name: &str,
     text: &str,
-) -> Result<(), Failure> {
+) -> Result<(), Failure>
+    ensures { OnOk result (members_view members.new.entries
+        ≡ put name.now (string text.now) (members_view members.old.entries)) }
+{
     put(alloc, members, name, Value::try_from_str(alloc, text)?)
+}
+
+// The members with this kind and version.
+fn put_type(
+    alloc: Global,
+    members: &mut Map<String, Value>,
+    kind: &str,
+    version: Option<&str>,
+) -> Result<(), Failure>
+    ensures { OnOk result (members_view members.new.entries
+        ≡ put_text (codes "apiVersion") (option_map (λ s. s.now) version.entry)
+        (put (codes "kind") (string kind.now) (members_view members.old.entries))) }
+{
+    put_text(alloc, members, "kind", kind)?;
+    if let Some(version) = version {
+        put_text(alloc, members, "apiVersion", version)?;
+    }
+    Ok(())
 }
 
 // An object with this kind and version.
@@ -149,13 +199,13 @@ fn with_type(
     item: Value,
     kind: &str,
     version: Option<&str>,
-) -> Result<Value, Failure> {
+) -> Result<Value, Failure>
+    ensures { IfOk result (λ v. view v
+        ≡ with_type kind.now (option_map (λ s. s.now) version.entry) (view item)) }
+{
     match item {
         Value::Object(mut members) => {
-            put_text(alloc, &mut members, "kind", kind)?;
-            if let Some(version) = version {
-                put_text(alloc, &mut members, "apiVersion", version)?;
-            }
+            put_type(alloc, &mut members, kind, version)?;
             Ok(Value::Object(members))
         }
         item => Ok(item),
@@ -168,7 +218,10 @@ fn typed(
     item: Value,
     kind: Option<&str>,
     version: Option<&str>,
-) -> Result<Value, Failure> {
+) -> Result<Value, Failure>
+    ensures { IfOk result (λ v. view v ≡ typed (option_map (λ s. s.now) kind.entry)
+        (option_map (λ s. s.now) version.entry) (view item)) }
+{
     match kind {
         Some(kind) if present(&item, "kind").is_none() => with_type(alloc, item, kind, version),
         _ => Ok(item),
@@ -176,7 +229,9 @@ fn typed(
 }
 
 impl Items {
-    pub(crate) fn new(alloc: Global) -> Items {
+    fn new(alloc: Global) -> Items
+        ensures { left_of result.values.items ≡ [] }
+    {
         Items {
             values: Vec::new(alloc),
             places: BTreeMap::new(alloc),
@@ -188,40 +243,51 @@ impl Items {
         }
     }
 
-    // What was passed over.
-    pub(crate) fn passed(&self) -> Passed {
-        self.passed
+    // Puts an object in the place of the same one before it, or behind all others.
+    fn put(&mut self, key: Option<String>, value: Option<Value>, again: bool) -> Result<(), Failure>
+        ensures { OnOk result (TakesIn (not again) (left_of (value ∷ []))
+            (left_of self.old.values.items) (left_of self.new.values.items)) }
+    {
+        let place = match &key {
+            Some(key) if again => self.places.get(key).copied(),
+            _ => None,
+        };
+        match place {
+            Some(place) => self.replace(place, value),
+            None => self.append(key, value)?,
+        }
+        Ok(())
     }
 
-    // Puts an object in the place of the same one before it, or behind all others.
-    fn put(
-        &mut self,
-        key: Option<String>,
-        value: Option<Value>,
-        again: bool,
-    ) -> Result<(), Failure> {
-        let Some(key) = key else {
-            self.values.push(value)?;
-            return Ok(());
-        };
-        let before = self.places.get(&key).copied();
-        match before {
-            Some(place) if again => {
-                if let Some(there) = self.values.get_mut(place) {
-                    *there = value;
-                }
-            }
-            _ => {
-                let place = self.values.len();
-                self.values.push(value)?;
-                drop(self.places.insert(key, place)?);
-            }
+    // Puts an object in the place of another.
+    #[tactic(auto, using(crate::proofs::ObjectLists::takes_same, crate::proofs::ObjectLists::replaced))]
+    fn replace(&mut self, place: usize, value: Option<Value>)
+        ensures { TakesIn false (left_of (value ∷ []))
+            (left_of self.old.values.items) (left_of self.new.values.items) }
+    {
+        if let Some(there) = self.values.get_mut(place) {
+            *there = value;
+        }
+    }
+
+    // Puts an object behind all others.
+    #[tactic(auto, using(crate::proofs::ObjectLists::appended))]
+    fn append(&mut self, key: Option<String>, value: Option<Value>) -> Result<(), Failure>
+        ensures { OnOk result (TakesIn true (left_of (value ∷ []))
+            (left_of self.old.values.items) (left_of self.new.values.items)) }
+    {
+        let place = self.values.len();
+        self.values.push(value)?;
+        if let Some(key) = key {
+            drop(self.places.insert(key, place)?);
         }
         Ok(())
     }
 
     // Passes over an object of another kind.
-    fn pass(&mut self, value: &Value) {
+    fn pass(&mut self, value: &Value)
+        ensures { self.new.values ≡ self.old.values }
+    {
         self.passed.others = self.passed.others.saturating_add(1);
         if is_near(value) {
             self.passed.near = self.passed.near.saturating_add(1);
@@ -230,7 +296,11 @@ impl Items {
 
     // Adds an object, unless its kind is another. One that was seen before stands as it is now: a
     // watch tells that by the object, other inputs by its uid alone.
-    fn push_seen(&mut self, alloc: Global, value: Value, watched: bool) -> Result<(), Failure> {
+    fn push_seen(&mut self, alloc: Global, value: Value, watched: bool) -> Result<(), Failure>
+        ensures { OnOk result (TakesIn (not watched && not (has_uid (view value)))
+            (kept (view value)) (left_of self.old.values.items)
+            (left_of self.new.values.items)) }
+    {
         if is_other(&value) {
             self.pass(&value);
             return Ok(());
@@ -241,7 +311,10 @@ impl Items {
     }
 
     // Leaves an object out that was deleted.
-    fn leave(&mut self, alloc: Global, value: &Value) -> Result<(), Failure> {
+    fn leave(&mut self, alloc: Global, value: &Value) -> Result<(), Failure>
+        ensures { OnOk result (TakesIn false [] (left_of self.old.values.items)
+            (left_of self.new.values.items)) }
+    {
         if is_other(value) {
             self.pass(value);
             return Ok(());
@@ -251,7 +324,10 @@ impl Items {
     }
 
     // Takes an event of a watch.
-    fn push_event(&mut self, alloc: Global, event: Event, object: Value) -> Result<(), Failure> {
+    fn push_event(&mut self, alloc: Global, event: Event, object: Value) -> Result<(), Failure>
+        ensures { OnOk result (TakesIn false (event_objects event (view object))
+            (left_of self.old.values.items) (left_of self.new.values.items)) }
+    {
         match event {
             Event::Seen => self.push_seen(alloc, object, true),
             Event::Deleted => self.leave(alloc, &object),
@@ -262,14 +338,21 @@ impl Items {
         }
     }
 
-    // Adds the items of a list.
-    fn push_listed(&mut self, alloc: Global, list: ListParts) -> Result<(), Failure> {
-        let ListParts {
-            items,
-            kind,
-            version,
-        } = list;
-        let version = version.as_ref().map(|text| text.as_str());
+    // Adds items of this kind and version.
+    fn push_typed(
+        &mut self,
+        alloc: Global,
+        items: Vec<Value>,
+        kind: Option<&str>,
+        version: Option<&str>,
+    ) -> Result<(), Failure>
+        ensures { OnOk result (TakesIn
+            (list_all (λ o. not (has_uid o)) (map (typed (option_map (λ s. s.now) kind.entry)
+            (option_map (λ s. s.now) version.entry)) (map view items.items)))
+            (flat_map kept (map (typed (option_map (λ s. s.now) kind.entry)
+            (option_map (λ s. s.now) version.entry)) (map view items.items)))
+            (left_of self.old.values.items) (left_of self.new.values.items)) }
+    {
         for item in items {
             let item = typed(alloc, item, kind, version)?;
             self.push_seen(alloc, item, false)?;
@@ -277,23 +360,55 @@ impl Items {
         Ok(())
     }
 
-    // Adds what a value says that is no array.
-    fn push_one(&mut self, alloc: Global, mut value: Value) -> Result<(), Failure> {
-        if let Some(event) = event_of(&value) {
-            let object = match value.get_mut("object") {
-                Some(object) => object.take(),
-                None => Value::Null,
-            };
-            return self.push_event(alloc, event, object);
-        }
-        match list_parts(alloc, &mut value)? {
-            Some(list) => self.push_listed(alloc, list),
+    // Adds the items of a list, which may say their kind.
+    fn push_listed(&mut self, alloc: Global, kind: Option<&str>, list: Value) -> Result<(), Failure>
+        ensures { OnOk result (TakesIn
+            (list_all (λ o. not (has_uid o)) (items_of_kind (option_map (λ s. s.now) kind.entry)
+            (view list)))
+            (flat_map kept (items_of_kind (option_map (λ s. s.now) kind.entry) (view list)))
+            (left_of self.old.values.items) (left_of self.new.values.items)) }
+    {
+        let version = match text_at(&list, "apiVersion") {
+            Some(version) => Some(String::from_str(alloc, version)?),
+            None => None,
+        };
+        let items = into_items(alloc, list);
+        let version = version.as_ref().map(|text| text.as_str());
+        self.push_typed(alloc, items, kind, version)
+    }
+
+    // Adds what a value says that is no event.
+    fn push_objects(&mut self, alloc: Global, value: Value) -> Result<(), Failure>
+        ensures { OnOk result (TakesIn (list_once (list_kind (view value)) (view value))
+            (list_objects (list_kind (view value)) (view value))
+            (left_of self.old.values.items) (left_of self.new.values.items)) }
+    {
+        match list_kind(&value) {
+            Some(kind) => self.push_listed(alloc, kind, value),
             None => self.push_seen(alloc, value, false),
         }
     }
 
+    // Adds what a value says that is no array.
+    fn push_one(&mut self, alloc: Global, mut value: Value) -> Result<(), Failure>
+        ensures { OnOk result (TakesIn (says_once (view value)) (objects_said (view value))
+            (left_of self.old.values.items) (left_of self.new.values.items)) }
+    {
+        match event_of(&value) {
+            Some(event) => {
+                let object = value.get_mut("object").map(Value::take);
+                self.push_event(alloc, event, object.unwrap_or(Value::Null))
+            }
+            None => self.push_objects(alloc, value),
+        }
+    }
+
     // Adds what the values of an array say.
-    fn push_all(&mut self, alloc: Global, values: Vec<Value>) -> Result<(), Failure> {
+    fn push_all(&mut self, alloc: Global, values: Vec<Value>) -> Result<(), Failure>
+        ensures { OnOk result (TakesIn (list_all says_once (map view values.items))
+            (flat_map objects_said (map view values.items))
+            (left_of self.old.values.items) (left_of self.new.values.items)) }
+    {
         for value in values {
             self.push_one(alloc, value)?;
         }
@@ -301,16 +416,26 @@ impl Items {
     }
 
     // Adds what a value says: an object, those of a list or an array, an event, or nothing.
-    pub(crate) fn push(&mut self, alloc: Global, value: Value) -> Result<(), Failure> {
+    #[tactic(auto, using(crate::proofs::ObjectLists::array_takes))]
+    fn push(&mut self, alloc: Global, value: Value) -> Result<(), Failure>
+        ensures { OnOk result (TakesIn (are_said_once (view value)) (objects_in (view value))
+            (left_of self.old.values.items) (left_of self.new.values.items)) }
+    {
         match value {
             Value::Null => Ok(()),
-            Value::Array(values) => self.push_all(alloc, values),
+            Value::Array(values) => {
+                self.push_all(alloc, values)?;
+                Ok(())
+            }
             value => self.push_one(alloc, value),
         }
     }
 
     // The objects that are left.
-    fn into_left(self, alloc: Global) -> Result<Vec<Value>, Failure> {
+    #[tactic(auto, using(crate::proofs::ObjectLists::left_on, crate::proofs::ObjectLists::left_out))]
+    fn into_left(self, alloc: Global) -> Result<Vec<Value>, Failure>
+        ensures { IfOk result (λ v. map view v.items ≡ left_of self.values.items) }
+    {
         let Items { values, .. } = self;
         let mut left = Vec::with_capacity(alloc, values.len())?;
         for value in values {
@@ -322,12 +447,36 @@ impl Items {
     }
 }
 
-// The list, as `kubectl get` prints it.
-pub(crate) fn list_value(alloc: Global, items: Items) -> Result<Value, Failure> {
+// The objects in values.
+fn items_in(alloc: Global, values: Vec<Value>) -> Result<Items, Failure>
+    ensures { IfOk result (λ items. TakesIn (list_all are_said_once (map view values.items))
+        (flat_map objects_in (map view values.items)) [] (left_of items.values.items)) }
+{
+    let mut items = Items::new(alloc);
+    for value in values {
+        items.push(alloc, value)?;
+    }
+    Ok(items)
+}
+
+// The list of objects, as `kubectl get` prints it.
+#[tactic(auto)]
+fn list_value(alloc: Global, items: Items) -> Result<Value, Failure>
+    ensures { IfOk result (λ v. view v ≡ list_of (left_of items.values.items)) }
+{
     let mut members = Map::new(alloc);
     put_text(alloc, &mut members, "apiVersion", "v1")?;
     put_text(alloc, &mut members, "kind", "List")?;
     let left = items.into_left(alloc)?;
     put(alloc, &mut members, "items", Value::Array(left))?;
     Ok(Value::Object(members))
+}
+
+/// The list of the objects in values, and what is passed over.
+pub(crate) fn list_for(alloc: Global, values: Vec<Value>) -> Result<(Value, Passed), Failure>
+    ensures { IfOk result (λ t. IsListFor (map view values.items) (view t.0)) }
+{
+    let items = items_in(alloc, values)?;
+    let passed = items.passed;
+    Ok((list_value(alloc, items)?, passed))
 }

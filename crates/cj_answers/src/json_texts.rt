@@ -1,4 +1,8 @@
 // Texts with several JSON values, one behind another: where each of them stands.
+ghost use Rattle.std.specs.Prelude.{◌≡◌, ◌≤◌, ◌++◌, [], None, IfOk, IfSome, length, map};
+ghost use Rattle.serde_json.specs.View.{view};
+ghost use Rattle.cj_answers.specs.Objects.{AreOf, IsBehind};
+
 use crate::json::is_blank;
 use cj_io::Failure;
 use cj_scenario::{SceneFault, value_of};
@@ -55,7 +59,9 @@ impl Scan {
 }
 
 // How many bytes an object, an array or a string at the front has; all where it doesn't end.
-fn closed_length(bytes: &[u8]) -> usize {
+fn closed_length(bytes: &[u8]) -> usize
+    ensures { result ≤ length bytes.now }
+{
     let mut scan = Scan::START;
     for index in 0..bytes.len() {
         scan = scan.after(bytes[index]);
@@ -71,38 +77,45 @@ fn ends_word(byte: u8) -> bool {
 }
 
 // How many bytes a number or a name at the front has.
-fn word_length(bytes: &[u8]) -> usize {
+fn word_length(bytes: &[u8]) -> usize
+    ensures { result ≤ length bytes.now }
+{
     bytes
         .iter()
         .position(|byte| ends_word(*byte))
         .unwrap_or(bytes.len())
 }
 
-fn value_length(bytes: &[u8]) -> usize {
+fn value_length(bytes: &[u8]) -> usize
+    ensures { result ≤ length bytes.now }
+{
     match bytes.first() {
         Some(b'{' | b'[' | b'"') => closed_length(bytes),
         _ => word_length(bytes),
     }
 }
 
-// What is behind so many bytes.
-fn behind(bytes: &[u8], count: usize) -> &[u8] {
-    if count > bytes.len() {
-        return b"";
-    }
-    let (_front, rest) = bytes.split_at(count);
-    rest
-}
-
 /// What is behind the blanks at the front.
-pub(crate) fn without_blanks(bytes: &[u8]) -> &[u8] {
-    let blanks = bytes.iter().position(|byte| !is_blank(*byte));
-    behind(bytes, blanks.unwrap_or(bytes.len()))
+#[tactic(auto, using(crate::proofs::ObjectLists::behind_none, crate::proofs::ObjectLists::behind_blank))]
+pub(crate) fn without_blanks(bytes: &[u8]) -> &[u8]
+    ensures { IsBehind result.now bytes.now }
+{
+    let mut rest = bytes;
+    for _ in 0..bytes.len() {
+        match rest.split_first() {
+            Some((byte, more)) if is_blank(*byte) => rest = more,
+            _ => break,
+        }
+    }
+    rest
 }
 
 // What is behind the blanks at the front, and behind the mark of YAML that may be between two
 // documents.
-fn without_mark(bytes: &[u8]) -> &[u8] {
+#[tactic(auto, using(crate::proofs::ObjectLists::behind_mark, crate::proofs::ObjectLists::behind_both))]
+fn without_mark(bytes: &[u8]) -> &[u8]
+    ensures { IsBehind result.now bytes.now }
+{
     let bytes = without_blanks(bytes);
     match bytes.strip_prefix(b"---") {
         Some(rest) => without_blanks(rest),
@@ -111,16 +124,15 @@ fn without_mark(bytes: &[u8]) -> &[u8] {
 }
 
 /// The text of the value at the front of a text, and what is behind it; nothing for blanks alone.
-pub(crate) fn first_text(bytes: &[u8]) -> Option<(&[u8], &[u8])> {
+pub(crate) fn first_text(bytes: &[u8]) -> Option<(&[u8], &[u8])>
+    ensures found { IfSome result (λ t. IsBehind (t.0.now ++ t.1.now) bytes.now) }
+    ensures none { result ≡ None → IsBehind [] bytes.now }
+{
     let bytes = without_mark(bytes);
     if bytes.is_empty() {
         return None;
     }
-    let length = value_length(bytes);
-    if length > bytes.len() {
-        return None;
-    }
-    Some(bytes.split_at(length))
+    Some(bytes.split_at(value_length(bytes)))
 }
 
 // The members by which a text may be an event of a watch: it begins with one of them.
@@ -145,12 +157,15 @@ pub(crate) fn is_one_object(bytes: &[u8]) -> bool {
 }
 
 /// The values of a text, one behind another; none where one of them is no JSON.
-pub(crate) fn values_in(alloc: Global, bytes: &[u8]) -> Result<Option<Vec<Value>>, Failure> {
+#[tactic(auto, using(crate::proofs::ObjectLists::begin_of, crate::proofs::ObjectLists::one_of_more, crate::proofs::ObjectLists::none_of_more))]
+pub(crate) fn values_in(alloc: Global, bytes: &[u8]) -> Result<Option<Vec<Value>>, Failure>
+    ensures { IfOk result (λ o. IfSome o (λ v. AreOf bytes.now (map view v.items))) }
+{
     let mut values = Vec::new(alloc);
     let mut rest = bytes;
     for _ in 0..=bytes.len() {
         let Some((text, more)) = first_text(rest) else {
-            break;
+            return Ok(Some(values));
         };
         match value_of(alloc, text) {
             Ok(value) => values.push(value)?,
@@ -159,7 +174,7 @@ pub(crate) fn values_in(alloc: Global, bytes: &[u8]) -> Result<Option<Vec<Value>
         }
         rest = more;
     }
-    Ok(Some(values))
+    Ok(None)
 }
 
 /// How many bytes are before the first value that is no JSON, and its text.
