@@ -28,6 +28,7 @@ ends_plain rest =
     (slice_index rest 0 == 10) || ((slice_index rest 0 == 58) && is_gap (slice_index rest 1))
 
 -- at an offset of the text a plain text stands as it is printed, and this behind it
+-- rule: yaml-reads-back
 pub record StandsPlain (text : List ℕ) (at : ℕ) (t rest : List ℕ) : Type 0 where
   pub there : drop at text ≡ t ++ rest
   pub plain : is_plain_line t ≡ true
