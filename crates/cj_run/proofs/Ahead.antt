@@ -392,8 +392,8 @@ run_keeps_up c workers w text start more k cron s z y =
     (omega (arith, first_is, soon)) a.apart
     (keep_up window c.span start k cron s y.new soon a.at y.minute more a.good.legal a.timely a.keeps a.spared)
     (λ t awaited.
-    (let ahead = ahead_off window c.span start k cron s y.new soon a.at more a.good.legal a.timely a.keeps a.spared a.off t
-    awaited in
+    (let ahead = ahead_off window c.span start k cron s y.new soon a.at more a.good.legal a.timely a.keeps a.spared
+    a.off t awaited in
     omega (arith, ahead, came)))
     (omega (arith, within, came, first_is)) in
     subst (λ (h : List Told). HaveKeptUp window k cron s z (moment c.span h) start h) (sym y.is)

@@ -297,6 +297,7 @@ same_turn : (s : SpanView) (e : Told) (h : List Told) → e.caller.role ≡ User
 same_turn s e h user =
     ap (λ (r : Role). (progress_after s (progress_of s h) r e.call).begun) user
 
+-- and no instant goes on after one
 user_off : (s : SpanView) (e : Told) (h : List Told) → e.caller.role ≡ User → (progress_of s (e ∷ h)).on ≡ false
 user_off s e h user = ap (λ (r : Role). (progress_after s (progress_of s h) r e.call).on) user
 

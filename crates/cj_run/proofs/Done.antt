@@ -44,8 +44,8 @@ does_call zones operation call p p' is m = record {
 }
 
 -- Two lists that match one by one still do with two such lists put behind them.
-pub zip_append : {X Y : Type 0} (R : X → Y → Type 0) (xs xs' : List X) (ys ys' : List Y) → AllZip R xs ys → AllZip R xs' ys'
-    → AllZip R (xs ++ xs') (ys ++ ys')
+pub zip_append : {X Y : Type 0} (R : X → Y → Type 0) (xs xs' : List X) (ys ys' : List Y) → AllZip R xs ys
+    → AllZip R xs' ys' → AllZip R (xs ++ xs') (ys ++ ys')
 zip_append R [] xs' [] ys' h h' = h'
 zip_append R [] xs' (y ∷ ys) ys' h h' = absurd h
 zip_append R (x ∷ xs) xs' [] ys' h h' = absurd h

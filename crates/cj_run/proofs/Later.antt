@@ -230,7 +230,8 @@ module _ (c : Simulation) (workers : ℕ) (w : WorldLog) (text : List ℕ) (k : 
       (last_caller ((p.workers.items ++ p.runners.items) ++ p.informer ∷ []) p.user x.caller x.caller.number
       (none_other workers p run.complete) is user))
       (back (IsOwn (map caller_of (passes_of p))) (later ++ e ∷ []) before
-      (subst (AllByRecursion (IsOwn (map caller_of (passes_of p)))) (sym (append_assoc later (e ∷ []) before)) all.own)) in
+      (subst (AllByRecursion (IsOwn (map caller_of (passes_of p))))
+      (sym (append_assoc later (e ∷ []) before)) all.own)) in
       let most = at_most number before numbers in
       let on = calls_on es start in
       let many : length stands.receipts ≡ length (placed number before) =

@@ -90,8 +90,8 @@ end_else : (end : End) (o : Option Data) (operation : Operation) → finish_with
 end_else end None operation is =
     λ draft now same. (let closes : Closes end ≡ operation = cc is in absurd (cc (closes ∙ same)))
 end_else end (Some list) operation is =
-    let a = map_some (λ (rs : List Reason). Calls (Of.Finish end rs)) (option_and_then (with_reasons []) (as_array list))
-    operation is in
+    let a = map_some (λ (rs : List Reason). Calls (Of.Finish end rs))
+    (option_and_then (with_reasons []) (as_array list)) operation is in
     λ draft now same. absurd (cc (a.2 ∙ same))
 
 -- What ends a sync creates none.

@@ -37,6 +37,7 @@ operations_below c (suc n) = operations_below c n ++ edits_at c.edits.items (ins
 -- ---- what it writes
 
 -- the call is to write the CronJob at the key
+-- rule: run-edits
 abbrev pub writes_cron : Place → Call → Bool
 writes_cron k (Of.CreateCron draft now) = key_eq draft.key k
 writes_cron k (Of.UpdateCron draft) = key_eq draft.key k
@@ -44,6 +45,7 @@ writes_cron k (Of.DeleteCron key) = key_eq key k
 writes_cron k call = false
 
 -- so is the operation's
+-- rule: run-edits
 abbrev pub operation_writes : Place → Operation → Bool
 operation_writes k (Calls call) = writes_cron k call
 operation_writes k operation = false

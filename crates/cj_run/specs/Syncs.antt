@@ -65,11 +65,13 @@ AreUntroubled window k (e ∷ es) start = IsUntroubled window k (es ++ start) e
 
 -- ---- what the user still does
 
--- how many calls of users a history has
+-- the role is a user's
 abbrev pub is_user : Role → Bool
 is_user User = true
 is_user role = false
 
+-- how many calls of users a history has
+-- rule: run-syncs
 abbrev pub user_calls : List Told → ℕ
 user_calls [] = 0
 user_calls (e ∷ h) = if is_user e.caller.role then user_calls h + 1 else user_calls h
@@ -92,9 +94,9 @@ pub record AreSyncs (window : ℕ) (k : Place) (cron : CronJob) (s : Sets) (z : 
   pub are : HaveSynced window k cron z now start g
   pub made : AreLatest s z cron are.moments (made_for window cron.meta.uid g)
 
--- in a run of a scenario whose edits create at their own moments, a CronJob is created at the moment
--- of the instant that begins next: of the first one, where it is there from the start, and of an
--- edit's own, where an edit creates it
+-- in a run of a scenario whose edits create at their own moments, a CronJob is created at the
+-- moment of the instant that begins next: of the first one, where it is there from the start, and
+-- of an edit's own, where an edit creates it
 -- rule: run-edits
 abbrev pub RunCreates : Type 0
 RunCreates = (c : Simulation) (workers : ℕ) (w : WorldLog) (text : List ℕ) (start more : List Told)
