@@ -4,8 +4,7 @@ ghost use Rattle.cj_control.specs.Sent.{SegmentLaw};
 ghost use Rattle.cj_control.specs.Syncs.{FollowLaw};
 
 /// Whatever a controller's syncs hear: each follows the protocol of the fenced start and asks one
-/// thing at a time, and of a CronJob one at most is under way. No claimed Job is deleted for its
-/// starting deadline at a moment past what the clock said last.
+/// thing at a time, and of a CronJob one at most is under way.
 pub fn follow_law()
     ensures { FollowLaw }
 {}
