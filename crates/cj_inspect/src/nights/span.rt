@@ -37,7 +37,7 @@ fn jobs_bounds(jobs: &[Shared<Job>]) -> Option<(u64, u64)>
 
 // With when the CronJobs were last due.
 fn with_crons(mut bounds: Option<(u64, u64)>, crons: &[Shared<ClusterCron>]) -> Option<(u64, u64)>
-    ensures { result ≡ with_crons bounds.entry crons.now }
+    ensures { result ≡ with_crons bounds crons.now }
 {
     for cron in crons {
         if let Some(time) = cron.get().cron.get().status.last_schedule_time {

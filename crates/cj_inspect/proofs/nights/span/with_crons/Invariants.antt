@@ -4,4 +4,4 @@ use Rattle.cj_inspect.specs.Nights.{with_crons}
 use Rattle.cj_inspect.proofs.nights.span.with_crons.Given as goal
 
 abbrev pub invariant-loop-cron : goal.invariant-loop-cron
-invariant-loop-cron l = with_crons l.bounds (drop l.cron-index l.crons) ≡ with_crons l.args.bounds l.crons
+invariant-loop-cron l = with_crons l.bounds (drop l.cron-index l.crons) ≡ with_crons l.fn.bounds l.crons
