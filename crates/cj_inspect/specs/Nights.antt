@@ -7,7 +7,7 @@ use Rattle.cj_schedule.specs.Grammar.{IsSchedule}
 use Rattle.cj_schedule.specs.Matches.{Sets}
 use Rattle.std.specs.FinMap as map
 use Rattle.cj_cluster.specs.declared.cluster.Cluster.{Cluster}
-use Rattle.cj_cluster.specs.declared.cluster.ClusterCron.{ClusterCron}
+use Rattle.cj_cluster.specs.declared.cron.ClusterCron.{ClusterCron}
 use Rattle.cj_types.specs.declared.cron.CronJob.{CronJob}
 use Rattle.cj_types.specs.declared.job.Job.{Job}
 use Rattle.cj_zone.specs.declared.zone.Zone.{Zone}

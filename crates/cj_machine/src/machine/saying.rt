@@ -84,6 +84,14 @@ pub(crate) fn say_started(
     note_event(alloc, driver, task, "SuccessfulCreate", false, message)
 }
 
+// Since when times are passed by: the last schedule time, or else the CronJob's creation.
+fn since_words(alloc: Global, last: u64) -> Result<String, Refusal> {
+    if last == 0 {
+        return Ok(String::from_str(alloc, "its creation")?);
+    }
+    time(alloc, last)
+}
+
 /// Says how many due times before the one that was claimed get no Job.
 pub(crate) fn say_passed(alloc: Global, driver: &mut Driver, task: &Task) -> Result<(), Refusal> {
     let (Some(plan), true) = (&task.plan, task.has_claimed) else {
@@ -92,14 +100,9 @@ pub(crate) fn say_passed(alloc: Global, driver: &mut Driver, task: &Task) -> Res
     if plan.passed == 0 {
         return Ok(());
     }
-    let (since, latest) = both(time(alloc, task.last), time(alloc, task.due))?;
+    let (since, latest) = both(since_words(alloc, task.last), time(alloc, task.due))?;
     let (name, count) = (task.name.as_str(), plan.passed);
-    let since = if task.last == 0 {
-        "its creation"
-    } else {
-        since.as_str()
-    };
-    let latest = latest.as_str();
+    let (since, latest) = (since.as_str(), latest.as_str());
     let text = format!(in alloc;
         "cronjob {name}: due times passed by since {since}: {count}; only the latest, {latest}, gets a job"
     )?;
