@@ -12,8 +12,8 @@ SVG = "{http://www.w3.org/2000/svg}"
 
 class Document(HTMLParser):
     """What a page has: its findings (`found`), how many there are of a kind (`kinds`), what it says
-    of the CronJobs that want a look (`looks`), those that its table marks (`marked`), and its text
-    without markup. What is wrong with it is put into `wrong`."""
+    of the CronJobs that need attention (`looks`), those that its table marks (`marked`), and its
+    text without markup. What is wrong with it is put into `wrong`."""
 
     def __init__(self, html, wrong):
         super().__init__(convert_charrefs=True)

@@ -184,9 +184,10 @@ def stands(clock, label, at, within):
 
 def labels(top, clock, wrong):
     """What stands above the lanes, of which each is what the clock shows there."""
-    start, end = (
-        printed_time(text, clock, wrong) for text in texts(top, y="22")[0].text.split(" to ")
-    )
+    caption = texts(top, y="22")[0].text
+    if caption == "Nothing to show":
+        return [label.text for label in texts(top, y="68")]
+    start, end = (printed_time(text, clock, wrong) for text in caption.split(" to "))
     span = max(end - start, 60)
     within = span // 7100 + 1
     found = texts(top, y="68")

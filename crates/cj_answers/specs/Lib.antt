@@ -1,4 +1,5 @@
 pub mod Advice
+pub mod Bare
 pub mod ClockWords
 pub mod Clocked
 pub mod Clusters

@@ -98,7 +98,7 @@ fn push_passed(alloc: Global, said: &mut String, passed: Passed) -> Result<(), F
     }
     if near > 0 {
         said.push_str(
-            "FILE: a kind among these differs from CronJob or Job in capital letters or an s alone\n",
+            "FILE: one of these has nearly the kind CronJob or Job; did you mean that?\n",
         )?;
     }
     if marks > 0 {

@@ -37,7 +37,7 @@ struct Items {
 }
 
 // The text of a member.
-fn text_at<'v>(value: &'v Value, name: &str) -> Option<&'v str>
+pub(crate) fn text_at<'v>(value: &'v Value, name: &str) -> Option<&'v str>
     ensures { option_map (λ s. s.now) result ≡ text_at name.now (view value.now) }
 {
     present(value, name)?.as_str()

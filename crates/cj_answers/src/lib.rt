@@ -9,6 +9,7 @@
 mod advice;
 mod answer;
 mod as_json;
+mod bare;
 mod clock_words;
 mod clocked;
 mod clusters;
@@ -41,6 +42,7 @@ mod zoning;
 pub use advice::{all_dropped_words, manifest_advice};
 pub use answer::{Answer, Ending};
 pub use as_json::{is_form, is_json, is_yaml, refused_form, value_line, yaml_text};
+pub use bare::is_bare_object;
 pub use clocked::{text_by_clock, time_by_clock};
 pub use clusters::{ending_by, is_read, item_prefix, note_lines, note_words, refused_list};
 pub use coming::schedule_advice;

@@ -33,7 +33,8 @@ fn hint_of(bytes: &[u8], kind: &FaultKind) -> &'static str {
         FaultKind::AnchorName | FaultKind::Indicator =>
             "; a schedule like * * * * * or @daily stands in quotes, and cronsim crontab reads a crontab",
         FaultKind::MergeKey => ", which only readers of YAML 1.1 know; write out what it merges",
-        _ if has_no_break_space(bytes) => "; the text has a no-break space, which is no blank",
+        _ if has_no_break_space(bytes) =>
+            "; the text has a no-break space (U+00A0) where a plain space is wanted",
         _ => "",
     }
 }

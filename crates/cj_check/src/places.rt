@@ -48,7 +48,7 @@ fn kind_of(object: &Value) -> Option<&str> {
     object.get("kind")?.as_str()
 }
 
-// Whether it is an object that `check` passes over among others.
+// Whether it is an object that `check` passes over.
 fn is_other(object: &Value) -> bool {
     match kind_of(object) {
         Some(kind) => kind != "CronJob" && kind != "Job",
@@ -196,8 +196,8 @@ impl<'a> Hints<'a> {
         Ok(())
     }
 
-    // Adds the lines on a document, which may be the only one.
-    fn push_document(&mut self, document: &Document, is_only: bool) -> Result<(), Failure> {
+    // Adds the lines on a document.
+    fn push_document(&mut self, document: &Document) -> Result<(), Failure> {
         let (value, places) = (&document.value, &document.places);
         if let Some(items) = items_of(value) {
             return self.push_listed(places, items);
@@ -205,7 +205,7 @@ impl<'a> Hints<'a> {
         if let Some(items) = value.as_array() {
             return self.push_items(places, items.as_slice());
         }
-        if value.is_null() || (is_other(value) && !is_only) {
+        if value.is_null() || is_other(value) {
             return Ok(());
         }
         self.push_object(places, Spot::Whole, value)
@@ -236,9 +236,8 @@ fn lines_of(alloc: Global, zones: &ZoneTable, name: &str, bytes: &[u8]) -> Resul
     };
     match read(alloc, bytes) {
         Ok(documents) => {
-            let is_only = documents.len() == 1;
             for document in documents.as_slice() {
-                hints.push_document(document, is_only)?;
+                hints.push_document(document)?;
             }
         }
         Err(fault) => match fault.kind {

@@ -206,12 +206,12 @@ pub record RefusesCron (r : WhyRequest) (unknown : List ℕ) (o : Outcome) : Typ
   pub some : is_nothing unknown ≡ false
   pub answer : o ≡ explained r.explain unknown (refusal (codes "cronsim: cron\n"))
 
--- where only those are printed that want a look, there is none
+-- where only those are printed that need attention, there is none
 -- rule: why-status
 abbrev pub is_fine : {A : Type 0} → WhyRequest → List A → Bool
 is_fine r shown = not r.problems || is_nothing shown
 
--- done where no item was refused, and none of those wants a look
+-- done where no item was refused, and none of those needs attention
 -- rule: why-status
 abbrev pub reviewed : Bool → List ItemNote → List ℕ → Outcome
 reviewed fine notes printed = record {
@@ -256,13 +256,13 @@ pub record IsWhyJson (zones : List Zone) (now : ℕ) (list : ClusterList) (lined
   pub clocks_are : IsNightData clocks
   pub line : IsJsonLine (why_data now calls clocks crons list.notes) text
 
--- that alone is printed, and done where no item was refused, and none of those wants a look
+-- that alone is printed, and done where no item was refused, and none of those needs attention
 -- rule: why-status
 abbrev pub valued : Bool → List ItemNote → List ℕ → Outcome
 valued fine notes printed =
     record { ending = ending_by (is_read notes && fine); printed = printed; said = [] }
 
--- of all CronJobs that are meant, or of those that want a look
+-- of all CronJobs that are meant, or of those that need attention
 -- rules: why-json, why-problems
 pub record PrintsJson (r : WhyRequest) (zones : List Zone) (now : ℕ) (list : ClusterList)
     (o : Outcome) : Type 0 where

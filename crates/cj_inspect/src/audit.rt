@@ -19,6 +19,7 @@ mod asking;
 use crate::as_json::audit::audit_json;
 use crate::audit::asking::{audit_moment, base_of, refused_audit_since};
 use crate::drawing::{clock_of, clock_table};
+use crate::html::since::cluster_since;
 use crate::narrowing::narrowed_list;
 use crate::nights::{Look, cluster_look, with_nights};
 use crate::report::asked_since;
@@ -36,7 +37,7 @@ use cj_audit::{
 use cj_base::{Refusal, both};
 use cj_cluster::{ClusterCron, ClusterList, read_cluster};
 use cj_io::{Failure, ZoneFile, read_input};
-use cj_picture::cluster_picture;
+use cj_picture::{Window, cluster_picture};
 use cj_types::{Seconds, Shared};
 use cj_zone::ZoneTable;
 use std::alloc::Global;
@@ -84,11 +85,13 @@ fn lines(alloc: Global, list: &ClusterList, findings: &Findings) -> Result<Strin
     Ok(joined(alloc, lines.as_str(), found.as_str())?)
 }
 
-// A picture, with the items that can't be used below it, by the clock that the word is of.
+// A picture of a window, with the items that can't be used below it, by the clock that the word is
+// of.
 fn drawn(
     alloc: Global,
     word: Option<&str>,
     files: &[ZoneFile],
+    window: Window,
     list: &ClusterList,
     findings: &Findings,
 ) -> Result<String, Refusal>
@@ -97,9 +100,11 @@ fn drawn(
     let lines = note_lines(alloc, list.notes.as_slice())?;
     let table = clock_table(alloc, word, files)?;
     let clock = clock_of(&table);
+    let cluster = cluster_since(alloc, window.since, &list.cluster)?;
     cluster_picture(
         alloc,
-        &list.cluster,
+        &cluster,
+        window,
         findings.as_slice(),
         lines.as_str(),
         clock,
@@ -113,6 +118,7 @@ fn printed(
     zones: &ZoneTable,
     files: &[ZoneFile],
     look: &Look,
+    window: Window,
     list: &ClusterList,
     findings: &Findings,
 ) -> Result<String, Refusal>
@@ -121,7 +127,7 @@ fn printed(
     ensures err { IfErr result (λ e. e ≡ OutOfMemory) }
 {
     if audit.svg {
-        drawn(alloc, audit.clock.zone, files, list, findings)
+        drawn(alloc, audit.clock.zone, files, window, list, findings)
     } else if is_json(audit.output) {
         audit_json(alloc, zones, look, list, findings)
     } else {
@@ -139,7 +145,7 @@ fn alone_line(alone: bool) -> &'static str
     }
 }
 
-// With how it ends.
+// Adds the exit status.
 fn ended(
     alloc: Global,
     list: &ClusterList,
@@ -267,7 +273,10 @@ fn list_audited(
     let findings = seen(all, since);
     let look = cluster_look(alloc, &list.cluster, first, now)?;
     let words = words(alloc, list, &findings)?;
-    let printed = printed(alloc, audit_of, zones, files, &look, list, &findings)?;
+    let window = Window { since, now };
+    let printed = printed(
+        alloc, audit_of, zones, files, &look, window, list, &findings,
+    )?;
     let answer = told_of(alloc, explain, list, &findings, printed, words.as_str())?;
     with_clocks(alloc, explain, zones, &look, list, answer)
 }
@@ -282,7 +291,7 @@ fn seen(findings: Findings, since: Option<Seconds>) -> Findings
     }
 }
 
-// What is answered where each CronJob that is named is there, with what is told beside it.
+// The answer where each CronJob of `--cron` exists, with its notices.
 fn part_audited(
     alloc: Global,
     audit: &AuditRequest<'_>,
@@ -303,7 +312,7 @@ fn part_audited(
     Ok(with_home_notice(alloc, within, crons.as_slice(), home, answer)?)
 }
 
-// What is answered where these lines tell which are unknown.
+// Refuses where these lines say which CronJobs of `--cron` are unknown.
 fn known_audited(
     alloc: Global,
     audit: &AuditRequest<'_>,

@@ -1,4 +1,4 @@
-// A page on a cluster's CronJobs, as HTML, to hand on.
+// A page on a cluster's CronJobs, as HTML, to share.
 //
 // Here belongs how the page looks and in which order it tells things, and nothing of what it
 // tells: findings are those of `cj_audit`, the reasons of a CronJob and what of it is a problem
@@ -19,7 +19,7 @@ mod page;
 mod pictures;
 mod rows;
 mod seen;
-mod since;
+pub(crate) mod since;
 mod style;
 mod text;
 

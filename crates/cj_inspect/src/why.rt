@@ -181,7 +181,7 @@ pub(crate) fn is_nothing(words: &str) -> bool
     words.is_empty()
 }
 
-// With what the clocks do.
+// Adds what clocks do.
 fn clocked_reviewed(
     alloc: Global,
     why: &WhyRequest<'_>,
@@ -200,7 +200,7 @@ fn clocked_reviewed(
     with_clocks(alloc, why, zones, list, crons, now, answer)
 }
 
-// With which Jobs failed.
+// Adds which Jobs failed.
 fn reasons_reviewed(
     alloc: Global,
     why: &WhyRequest<'_>,

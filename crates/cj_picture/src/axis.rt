@@ -48,6 +48,22 @@ impl Axis {
         }
     }
 
+    /// From that moment on, where somebody says one; from the end if it is later.
+    pub(crate) fn since(self, first: Option<Seconds>) -> Axis {
+        match first {
+            Some(first) => Axis {
+                start: first.get().min(self.end),
+                end: self.end,
+            },
+            None => self,
+        }
+    }
+
+    /// Whether there is no moment.
+    pub(crate) fn is_empty(self) -> bool {
+        self.end == 0
+    }
+
     /// How long they take, or a minute if that is longer.
     pub(crate) fn span(self) -> u64 {
         self.end.saturating_sub(self.start).max(MINUTE)

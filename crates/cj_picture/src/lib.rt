@@ -21,6 +21,6 @@ mod style;
 mod svg;
 mod ticks;
 
-pub use cluster::cluster_picture;
+pub use cluster::{Window, cluster_picture};
 pub use heat::heat_picture;
 pub use run::picture_text;

@@ -52,18 +52,29 @@ pub(crate) fn push_frame(
     Ok(text.push_str("<rect class=\"bg\" width=\"100%\" height=\"100%\"/>\n")?)
 }
 
+// From when to when it is.
+fn span_text(alloc: Global, axis: Axis) -> Result<String, Refusal>
+    ensures err { IfErr result (λ e. e ≡ OutOfMemory) }
+{
+    if axis.is_empty() {
+        return Ok(String::from_str(alloc, "Nothing to show")?);
+    }
+    let start = moment_text(alloc, axis.start)?;
+    let end = moment_text(alloc, axis.end)?;
+    let (start, end) = (start.as_str(), end.as_str());
+    Ok(format!(in alloc; "{start} to {end}")?)
+}
+
 // From when to when, and how much there is to see.
 fn push_caption(alloc: Global, text: &mut String, page: &Page) -> Result<(), Refusal>
     ensures err { IfErr result (λ e. e ≡ OutOfMemory) }
 {
-    let start = moment_text(alloc, page.axis.start)?;
-    let start = start.as_str();
-    let end = moment_text(alloc, page.axis.end)?;
-    let end = end.as_str();
+    let span = span_text(alloc, page.axis)?;
+    let span = span.as_str();
     let crons = page.lanes.len();
     let jobs = page.blocks.len();
     let caption = format!(in alloc;
-        "<text class=\"h\" x=\"16\" y=\"22\">{start} to {end}</text><text class=\"dim\" x=\"16\" y=\"40\">CronJobs: {crons}, Jobs: {jobs}</text>\n"
+        "<text class=\"h\" x=\"16\" y=\"22\">{span}</text><text class=\"dim\" x=\"16\" y=\"40\">CronJobs: {crons}, Jobs: {jobs}</text>\n"
     )?;
     Ok(text.push_str(caption.as_str())?)
 }
@@ -137,7 +148,9 @@ impl Page {
         push_frame(alloc, text, 960, height, called)?;
         push_caption(alloc, text, self)?;
         push_grounds(alloc, text, self.lanes.as_slice())?;
-        push_ticks(alloc, text, self.axis, clock, self.layout.bottom)?;
+        if !self.axis.is_empty() {
+            push_ticks(alloc, text, self.axis, clock, self.layout.bottom)?;
+        }
         push_heads(alloc, text, self.layout, self.lanes.as_slice())
     }
 

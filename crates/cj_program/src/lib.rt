@@ -21,8 +21,8 @@ mod told;
 mod writing;
 
 pub use cj_answers::{
-    JsonInput, ZonedMoment, by_clock, json_input, moment_in, nearest_zone, next_text, shape_words,
-    zones_for,
+    JsonInput, ZonedMoment, by_clock, is_bare_object, json_input, moment_in, nearest_zone,
+    next_text, shape_words, zones_for,
 };
 pub use cj_args::{
     CheckRequest, ClockWords, ControlRequest, CrontabRequest, ReportRequest, Request,

@@ -35,7 +35,7 @@ use progress::{is_shown, serve_shown};
 use secret::new_secret;
 use several::{serve_files, serve_report_files, serve_upcoming_files};
 use shown_zone::{local_zone, names_unshown, with_zone};
-use source::Input;
+use source::{Files, Input};
 use std::alloc::Global;
 use std::io::{IsTerminal, Write};
 use std::process::ExitCode;
@@ -231,6 +231,25 @@ fn serve_crontab<T: Threads + Wait + Sync>(
     }
 }
 
+// Serves a request that reads one file at most, with the zone files that it asks for.
+fn serve_one<T: Threads + Wait + Sync>(
+    threads: &T,
+    rt: &HostRuntime,
+    request: &mut Request<'_>,
+    folder: &str,
+    input: &mut Input,
+    meter: &Meter,
+) -> Result<ExitStatus, Failure> {
+    match request {
+        Request::Control(control) => Ok(serve_control(rt, control, folder, input)),
+        Request::Crontab(_) => serve_crontab(threads, rt, request, folder, input, meter),
+        Request::Next(_) | Request::Describe(_) | Request::Previous(_) => {
+            serve_schedule(threads, rt, request, folder, meter)
+        }
+        _ => serve_with_folder(threads, rt, request, folder, input, meter),
+    }
+}
+
 // Serves a request, with the zone files that it asks for.
 fn serve_request<T: Threads + Wait + Sync>(
     threads: &T,
@@ -246,18 +265,14 @@ fn serve_request<T: Threads + Wait + Sync>(
     if describes_file(request) {
         return serve_with_folder(threads, rt, request, folder, input, meter);
     }
+    let Some(files) = input.files() else {
+        return serve_one(threads, rt, request, folder, input, meter);
+    };
     match request {
-        Request::Check(check) if input.is_several() => serve_files(rt, check, folder),
-        Request::Upcoming(upcoming) if input.is_several() => {
-            serve_upcoming_files(rt, upcoming, folder)
-        }
-        Request::Report(report) if input.is_several() => serve_report_files(rt, report, folder),
-        Request::Control(control) => Ok(serve_control(rt, control, folder, input)),
-        Request::Crontab(_) => serve_crontab(threads, rt, request, folder, input, meter),
-        Request::Next(_) | Request::Describe(_) | Request::Previous(_) => {
-            serve_schedule(threads, rt, request, folder, meter)
-        }
-        _ => serve_with_folder(threads, rt, request, folder, input, meter),
+        Request::Check(check) => serve_files(rt, check, folder, files),
+        Request::Upcoming(upcoming) => serve_upcoming_files(rt, upcoming, folder, files),
+        Request::Report(report) => serve_report_files(rt, report, folder, files),
+        _ => serve_one(threads, rt, request, folder, input, meter),
     }
 }
 
@@ -355,8 +370,11 @@ fn at_moment<'a>(mut request: Request<'a>, moment: Option<&'a str>) -> Request<'
 
 // What a request reads: its file, or several, each of which is opened when its turn comes.
 fn input_of(rt: &HostRuntime, request: &Request<'_>, is_listed: bool) -> Input {
-    if is_listed || file_names(request).len() > 1 {
-        return Input::several();
+    if is_listed {
+        return Input::several(Files::Listed);
+    }
+    if file_names(request).len() > 1 {
+        return Input::several(Files::Named);
     }
     tell_waiting(rt, request.file());
     Input::open(rt, request.file())

@@ -1,7 +1,7 @@
 use crate::folder::{input_files, push_clock_file, push_input_files};
-use crate::source::Input;
+use crate::source::{Files, Input};
 use crate::streams::Output;
-use crate::taken::{Taken, named_json, tell_others};
+use crate::taken::{Passed, Taken, named_json, tell_passed};
 use crate::telling::{Served, at_terminal, tell, tell_more};
 use cj_program::{
     CheckRequest, CronFile, ExitStatus, Failure, FileAnswer, MOST_BYTES, MOST_LIST_BYTES,
@@ -33,8 +33,8 @@ struct Told {
     lines: Vec<u8>,
     // (whether nothing was told of the files yet)
     is_first: bool,
-    // (how many objects of other kinds are passed over)
-    others: u64,
+    // (what is passed over)
+    passed: Passed,
 }
 
 // Adds what people are told of a file that was read: what it is, and where its faults stand.
@@ -55,51 +55,57 @@ fn push_hints(
     Ok(())
 }
 
-// What is answered of the bytes of one of several files.
+// What is answered of the bytes of one of several files; none where it is passed over.
 fn bytes_answer<'a>(
     rt: &HostRuntime,
     check: &CheckRequest<'a>,
     folder: &str,
     name: &'a str,
+    files: Files,
     bytes: Vec<u8>,
     told: &mut Told,
-) -> Result<FileAnswer<'a>, Failure> {
+) -> Result<Option<FileAnswer<'a>>, Failure> {
     let alloc = rt.alloc();
     let source = if check.explain {
         Vec::from_slice(alloc, bytes.as_slice())?
     } else {
         Vec::new(alloc)
     };
-    let Taken { bytes, others } = named_json(rt, name, bytes, told.is_first)?;
-    told.others = told.others.saturating_add(others);
-    let files = input_files(rt, folder, bytes.as_slice())?;
-    let answer = check_file_answer(alloc, check, name, files.as_slice(), &mut bytes.as_slice())?;
+    let taken = named_json(rt, name, bytes, files, told.is_first)?;
+    told.passed = told.passed.with(&taken);
+    let Taken { bytes, is_bare, .. } = taken;
+    if is_bare {
+        return Ok(None);
+    }
+    let zones = input_files(rt, folder, bytes.as_slice())?;
+    let answer = check_file_answer(alloc, check, name, zones.as_slice(), &mut bytes.as_slice())?;
     if check.explain {
         let lines = &mut told.lines;
-        push_hints(rt, check, name, files.as_slice(), source.as_slice(), lines)?;
+        push_hints(rt, check, name, zones.as_slice(), source.as_slice(), lines)?;
     }
-    Ok(FileAnswer {
+    Ok(Some(FileAnswer {
         name,
         answer: Some(answer),
-    })
+    }))
 }
 
-// What is answered of one of several files; none where it can't be read.
+// What is answered of one of several files; none where it is passed over.
 fn answer_of<'a>(
     rt: &HostRuntime,
     check: &CheckRequest<'a>,
     folder: &str,
     name: &'a str,
+    files: Files,
     told: &mut Told,
-) -> Result<FileAnswer<'a>, Failure> {
+) -> Result<Option<FileAnswer<'a>>, Failure> {
     let mut input = Input::open(rt, Some(name));
     match read_input(rt.alloc(), &mut input, MOST_BYTES, MOST_READS) {
-        Ok(bytes) => bytes_answer(rt, check, folder, name, bytes, told),
+        Ok(bytes) => bytes_answer(rt, check, folder, name, files, bytes, told),
         Err(Failure::Memory) => Err(Failure::Memory),
         Err(_) => {
             let cause = cause_of(&input);
             let _ = writeln!(&mut told.lines, "{name}: {cause}");
-            Ok(FileAnswer { name, answer: None })
+            Ok(Some(FileAnswer { name, answer: None }))
         }
     }
 }
@@ -109,6 +115,7 @@ fn check_all<W: Write>(
     rt: &HostRuntime,
     check: &CheckRequest<'_>,
     folder: &str,
+    files: Files,
     is_first: bool,
     out: &mut W,
 ) -> Result<Served, Failure> {
@@ -117,15 +124,17 @@ fn check_all<W: Write>(
     let mut told = Told {
         lines: Vec::new(alloc),
         is_first,
-        others: 0,
+        passed: Passed::NOTHING,
     };
     for name in check.files.as_slice() {
-        answers.push(answer_of(rt, check, folder, name, &mut told)?)?;
+        if let Some(answer) = answer_of(rt, check, folder, name, files, &mut told)? {
+            answers.push(answer)?;
+        }
     }
     let mut said = Vec::new(alloc);
     let status = serve_several(alloc, check, answers.as_slice(), out, &mut said);
     if is_first {
-        tell_others(told.others, &mut said);
+        tell_passed(told.passed, &mut said);
     }
     if check.explain || at_terminal(rt) {
         let _ = said.write_all(told.lines.as_slice());
@@ -145,23 +154,24 @@ pub fn serve_files(
     rt: &HostRuntime,
     check: &mut CheckRequest<'_>,
     folder: &str,
+    files: Files,
 ) -> Result<ExitStatus, Failure> {
     let mut out = Output::new(rt);
-    let first = check_all(rt, check, folder, true, &mut out)?;
+    let first = check_all(rt, check, folder, files, true, &mut out)?;
     let status = tell(rt, &first, out.is_closed());
     if wants_why(rt, check, &first) {
         check.explain = true;
-        let second = check_all(rt, check, folder, false, &mut io::sink())?;
+        let second = check_all(rt, check, folder, files, false, &mut io::sink())?;
         tell_more(rt, &first, &second);
     }
     Ok(status)
 }
 
 // What is taken of one of several files; none where it can't be read, which standard error says.
-fn bytes_of(rt: &HostRuntime, name: &str) -> Result<Option<Taken>, Failure> {
+fn bytes_of(rt: &HostRuntime, name: &str, files: Files) -> Result<Option<Taken>, Failure> {
     let mut input = Input::open(rt, Some(name));
     match read_input(rt.alloc(), &mut input, MOST_LIST_BYTES, MOST_LIST_READS) {
-        Ok(bytes) => Ok(Some(named_json(rt, name, bytes, true)?)),
+        Ok(bytes) => Ok(Some(named_json(rt, name, bytes, files, true)?)),
         Err(Failure::Memory) => Err(Failure::Memory),
         Err(failure) => {
             let err = &mut rt.stderr();
@@ -173,20 +183,32 @@ fn bytes_of(rt: &HostRuntime, name: &str) -> Result<Option<Taken>, Failure> {
     }
 }
 
-// The bytes of all files; none where one can't be read.
-fn all_bytes(rt: &HostRuntime, names: &[&str]) -> Result<Option<Vec<Vec<u8>>>, Failure> {
+// The bytes of a file and its name.
+#[derive(Drop)]
+struct NamedBytes<'a> {
+    name: &'a str,
+    bytes: Vec<u8>,
+}
+
+// The bytes of all files but for those that are passed over; none where one can't be read.
+fn all_bytes<'a>(
+    rt: &HostRuntime,
+    names: &[&'a str],
+    files: Files,
+) -> Result<Option<Vec<NamedBytes<'a>>>, Failure> {
     let mut all = Vec::new(rt.alloc());
-    let mut count: u64 = 0;
+    let mut passed = Passed::NOTHING;
     for name in names {
-        match bytes_of(rt, name)? {
-            Some(Taken { bytes, others }) => {
-                all.push(bytes)?;
-                count = count.saturating_add(others);
-            }
-            None => return Ok(None),
+        let Some(taken) = bytes_of(rt, name, files)? else {
+            return Ok(None);
+        };
+        passed = passed.with(&taken);
+        let Taken { bytes, is_bare, .. } = taken;
+        if !is_bare {
+            all.push(NamedBytes { name: *name, bytes })?;
         }
     }
-    tell_others(count, &mut rt.stderr());
+    tell_passed(passed, &mut rt.stderr());
     Ok(Some(all))
 }
 
@@ -229,14 +251,15 @@ pub fn serve_upcoming_files(
     rt: &HostRuntime,
     upcoming: &mut UpcomingRequest<'_>,
     folder: &str,
+    files: Files,
 ) -> Result<ExitStatus, Failure> {
     let alloc = rt.alloc();
-    let Some(all) = all_bytes(rt, upcoming.files.as_slice())? else {
+    let Some(all) = all_bytes(rt, upcoming.files.as_slice(), files)? else {
         return Ok(ExitStatus::Failed);
     };
     let mut zone_files = Vec::new(alloc);
     let mut sources = Vec::new(alloc);
-    for (name, bytes) in upcoming.files.as_slice().iter().zip(all.as_slice()) {
+    for NamedBytes { name, bytes } in all.as_slice() {
         let bytes = bytes.as_slice();
         push_input_files(rt, &mut zone_files, folder, bytes)?;
         sources.push(CronFile { name: *name, bytes })?;
@@ -285,14 +308,15 @@ pub fn serve_report_files(
     rt: &HostRuntime,
     report: &mut ReportRequest<'_>,
     folder: &str,
+    files: Files,
 ) -> Result<ExitStatus, Failure> {
     let alloc = rt.alloc();
-    let Some(all) = all_bytes(rt, report.files.as_slice())? else {
+    let Some(all) = all_bytes(rt, report.files.as_slice(), files)? else {
         return Ok(ExitStatus::Failed);
     };
     let mut zone_files = Vec::new(alloc);
     let mut sources = Vec::new(alloc);
-    for (name, bytes) in report.files.as_slice().iter().zip(all.as_slice()) {
+    for NamedBytes { name, bytes } in all.as_slice() {
         let bytes = bytes.as_slice();
         push_input_files(rt, &mut zone_files, folder, bytes)?;
         sources.push(CronFile { name: *name, bytes })?;

@@ -10,7 +10,16 @@ enum Source {
     /// A file that could not be opened, or is a directory, for this cause: every read fails.
     Unopened(ErrorKind),
     /// Several files, each of which is opened when its turn comes: every read fails here.
-    Several,
+    Several(Files),
+}
+
+/// Where the names of several files come from.
+#[derive(Clone, Copy, Debug, PartialEq, Eq)]
+pub enum Files {
+    /// Each is named by a word.
+    Named,
+    /// A folder is among the words, and stands for the files in it.
+    Listed,
 }
 
 /// What a command reads, and how many bytes of it were read.
@@ -34,9 +43,9 @@ impl Input {
     }
 
     /// That of several files.
-    pub fn several() -> Input {
+    pub fn several(files: Files) -> Input {
         Input {
-            source: Source::Several,
+            source: Source::Several(files),
             count: 0,
         }
     }
@@ -49,9 +58,12 @@ impl Input {
         }
     }
 
-    /// Whether it is that of several files.
-    pub fn is_several(&self) -> bool {
-        matches!(self.source, Source::Several)
+    /// Where the names of several files come from; none where it is that of one.
+    pub fn files(&self) -> Option<Files> {
+        match self.source {
+            Source::Several(files) => Some(files),
+            _ => None,
+        }
     }
 
     /// Whether more bytes were read than so many.
@@ -71,7 +83,7 @@ impl Input {
             Source::Unopened(ErrorKind::PermissionDenied) => Some("permission denied"),
             Source::Unopened(ErrorKind::IsADirectory) => Some("is a directory"),
             Source::Unopened(_) => Some("it can't be opened"),
-            Source::Standard(_) | Source::File(_) | Source::Several => None,
+            Source::Standard(_) | Source::File(_) | Source::Several(_) => None,
         }
     }
 }
@@ -83,7 +95,7 @@ impl Read for Input {
             Source::Standard(input) => input.read(buf),
             Source::File(file) => file.read(buf),
             Source::Unopened(kind) => Err(io::Error::from(*kind)),
-            Source::Several => Err(io::Error::from(ErrorKind::Other)),
+            Source::Several(_) => Err(io::Error::from(ErrorKind::Other)),
         };
         match &read {
             Ok(count) => self.count = self.count.saturating_add(*count),

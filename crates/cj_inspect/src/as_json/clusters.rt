@@ -135,7 +135,7 @@ fn all_valued(
 }
 
 /// What is printed of CronJobs of a list that these bytes are, as one JSON value: of all, or of
-/// those that want a look.
+/// those that need attention.
 pub(crate) fn json_reviewed(
     alloc: Global,
     why: &WhyRequest<'_>,

@@ -16,7 +16,7 @@ pub(crate) struct Counts {
     pub(crate) crons: usize,
     pub(crate) jobs: usize,
     pub(crate) findings: usize,
-    /// How many CronJobs want a look.
+    /// How many CronJobs need attention.
     pub(crate) looks: u64,
 }
 
@@ -83,7 +83,7 @@ fn push_passed(alloc: Global, text: &mut String, passed: &str) -> Result<(), All
 }
 
 const LINKS: &str = "<nav aria-label=\"Sections\">
-<a href=\"#look\">CronJobs that want a look</a>
+<a href=\"#look\">CronJobs that need attention</a>
 <a href=\"#findings\">Findings</a>
 <a href=\"#cronjobs\">CronJobs</a>
 <a href=\"#jobs\">Jobs over time</a>

@@ -1,19 +1,18 @@
-// The CronJobs that want a look, a line each.
+// The CronJobs that need attention, a line each.
 use crate::html::seen::{SeenCron, look_count};
 use crate::html::text::{push_between, push_text};
 use cj_due::Missed;
 use std::alloc::{AllocError, Global};
 
 const HEAD: &str = "<section id=\"look\">
-<h2>CronJobs that want a look</h2>
+<h2>CronJobs that need attention</h2>
 ";
 
-const NONE: &str =
-    "<p>None: no CronJob is behind or kept from starting a Job, but for those that are suspended or being deleted, and no CronJob's newest finished Job failed.</p>\n";
+const NONE: &str = "<p>Nothing needs attention.</p>\n";
 
 const OPEN: &str =
     "<p class=\"advice\"><strong>What to do:</strong> The table of the CronJobs has the reasons of each. Of a Job that failed and is still there, kubectl describe job NAME -n NAMESPACE says why, and kubectl logs job/NAME -n NAMESPACE has what it printed.</p>
-<div class=\"tall\" tabindex=\"0\" role=\"region\" aria-label=\"CronJobs that want a look\">
+<div class=\"tall\" tabindex=\"0\" role=\"region\" aria-label=\"CronJobs that need attention\">
 <ul>
 ";
 
@@ -54,7 +53,7 @@ fn push_lines(alloc: Global, text: &mut String, seen: &[SeenCron]) -> Result<(),
     Ok(())
 }
 
-/// The section of the CronJobs that want a look.
+/// The section of the CronJobs that need attention.
 pub(crate) fn push_looks(
     alloc: Global,
     text: &mut String,

@@ -16,6 +16,7 @@ use crate::html::since::findings_since;
 use crate::html::style::FOOT;
 use cj_audit::Finding;
 use cj_cluster::Cluster;
+use cj_picture::Window;
 use cj_types::{Refusal, Seconds};
 use cj_zone::ZoneTable;
 use std::alloc::Global;
@@ -33,6 +34,16 @@ pub struct Subject<'a> {
     pub passed: &'a str,
     /// Whether they have Jobs of CronJobs, and no CronJob.
     pub alone: bool,
+}
+
+impl<'a> Subject<'a> {
+    // From when to when its Jobs are drawn.
+    fn window(&self) -> Window {
+        Window {
+            since: self.since,
+            now: Some(self.now),
+        }
+    }
 }
 
 // How much there is of which.
@@ -72,13 +83,13 @@ fn push_sections(
     push_looks(alloc, text, seen)?;
     push_found(alloc, text, cluster, findings, subject.alone)?;
     push_crons(alloc, text, zones, seen)?;
-    push_jobs(alloc, text, cluster, subject.since, findings)?;
+    push_jobs(alloc, text, cluster, subject.window(), findings)?;
     push_day(alloc, text, zones, crons, now)?;
     push_changes(alloc, text, zones, crons, now, subject.since)
 }
 
 /// A page on a cluster at a moment, as HTML that needs nothing from elsewhere: when it is of, of
-/// which files, and what was passed over; the CronJobs that want a look; these findings of
+/// which files, and what was passed over; the CronJobs that need attention; these findings of
 /// `cj_audit`, kind by kind, each with its sentence, and what to do; a table of the CronJobs; the
 /// Jobs over time; what starts in the day to come; and the local times that a clock skips, or shows
 /// twice, from a week before to a year from then on, and that a schedule names.

@@ -4,7 +4,7 @@ ghost use Rattle.cj_base.specs.declared.refusal.Refusal.TheVariants.{OutOfMemory
 
 use crate::html::text::push_between;
 use cj_cluster::Cluster;
-use cj_picture::cluster_picture;
+use cj_picture::{Window, cluster_picture};
 use cj_types::Refusal;
 use std::alloc::{AllocError, Global};
 
@@ -39,7 +39,7 @@ pub(crate) fn push_style(alloc: Global, text: &mut String) -> Result<(), Refusal
 {
     let nothing = Cluster::new(alloc);
     let none = Vec::new(alloc);
-    let picture = cluster_picture(alloc, &nothing, none.as_slice(), "", None)?;
+    let picture = cluster_picture(alloc, &nothing, Window::ALL, none.as_slice(), "", None)?;
     let (_, style, _) = parted(picture.as_str());
     text.push_str(style)?;
     Ok(text.push_str("\n")?)

@@ -119,7 +119,7 @@ fn push_failed(text: &mut String, failed: &str) -> Result<(), AllocError> {
 }
 
 // Why, in a word, and the reasons behind it, of which the first line names the CronJob again; with
-// a mark where it wants a look.
+// a mark where it needs attention.
 fn push_why(text: &mut String, seen: &SeenCron) -> Result<(), AllocError> {
     let open = if seen.wants_look {
         "<td data-column=\"Why\" class=\"look\"><details><summary>"

@@ -18,7 +18,7 @@ pub(crate) struct SeenCron {
     pub(crate) row: CronRow,
     /// How many of its Jobs failed, the last of them, and when; nothing where none did.
     pub(crate) failed: String,
-    /// Whether it wants a look: `why --problems` has it, or its newest finished Job failed.
+    /// Whether it needs attention: `why --problems` has it, or its newest finished Job failed.
     pub(crate) wants_look: bool,
 }
 
@@ -152,7 +152,7 @@ pub(crate) fn seen_crons(
     Ok(seen)
 }
 
-/// How many of them want a look.
+/// How many of them need attention.
 pub(crate) fn look_count(seen: &[SeenCron]) -> u64 {
     let mut count: u64 = 0;
     for cron in seen {

@@ -16,7 +16,7 @@ use cj_why::{Reviewed, problems, review};
 use cj_zone::ZoneTable;
 use std::alloc::{AllocError, Global};
 
-// Whether none of these wants a look, where only such are printed.
+// Whether none of these needs attention, where only such are printed.
 pub(crate) fn is_fine(problems: bool, lined: &[Shared<ClusterCron>]) -> bool
     ensures { result ≡ (not problems || is_nothing lined.now) }
 {
@@ -68,7 +68,7 @@ fn all_lined(
     Ok(printed(alloc, why.explain, fine, notes, &reviewed)?)
 }
 
-/// What is printed of them in lines, of all or of those that want a look.
+/// What is printed of them in lines, of all or of those that need attention.
 pub(crate) fn lines_reviewed(
     alloc: Global,
     why: &WhyRequest<'_>,

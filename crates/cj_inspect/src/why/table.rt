@@ -23,7 +23,7 @@ pub(crate) fn is_full(why: &WhyRequest<'_>) -> bool
     why.explain || why.crons.as_slice().len() == 1
 }
 
-// Whether none of these wants a look, where only such are printed.
+// Whether none of these needs attention, where only such are printed.
 fn is_fine(problems: bool, rows: &[CronRow]) -> bool
     ensures { result ≡ (not problems || is_nothing rows.now) }
 {

@@ -4,6 +4,7 @@ ghost use Rattle.cj_base.specs.declared.refusal.Refusal.TheVariants.{OutOfMemory
 
 use crate::axis::Axis;
 use crate::blocks::{Block, Look, title};
+use crate::cluster::window::Window;
 use crate::lanes::Lane;
 use cj_audit::{Run, runs_of};
 use cj_cluster::{Cluster, ClusterCron};
@@ -52,8 +53,8 @@ pub(crate) fn members_of(
     Ok(members)
 }
 
-/// The moments of these Jobs.
-pub(crate) fn axis_of(members: &[Member]) -> Axis {
+/// The moments of these Jobs, within a window.
+pub(crate) fn axis_of(members: &[Member], window: Window) -> Axis {
     let mut axis = Axis::empty();
     for member in members {
         axis = axis
@@ -61,7 +62,7 @@ pub(crate) fn axis_of(members: &[Member]) -> Axis {
             .with(member.run.times.ended)
             .with(member.run.times.scheduled);
     }
-    axis.whole()
+    axis.with(window.now).whole().since(window.since)
 }
 
 fn look_of(run: &Run) -> Look {

@@ -5,6 +5,7 @@ ghost use Rattle.cj_base.specs.declared.refusal.Refusal.TheVariants.{OutOfMemory
 use crate::axis::Axis;
 use crate::cluster::bars::{Member, axis_of, members_of, place_all};
 use crate::cluster::findings::{crosses_in, ill_jobs, summary};
+use crate::cluster::window::Window;
 use crate::lanes::{Lane, lay_out};
 use crate::page::Page;
 use crate::style::CLUSTER_LEGEND;
@@ -47,13 +48,18 @@ fn page_with(
     })
 }
 
-fn page_of(alloc: Global, cluster: &Cluster, findings: &[Finding]) -> Result<Page, Refusal>
+fn page_of(
+    alloc: Global,
+    cluster: &Cluster,
+    window: Window,
+    findings: &[Finding],
+) -> Result<Page, Refusal>
     ensures err { IfErr result (λ e. e ≡ OutOfMemory) }
 {
     let crons = cluster.crons(alloc)?;
     let members = members_of(alloc, cluster, crons.as_slice())?;
     let lanes = lanes_of(alloc, crons.as_slice())?;
-    let axis = axis_of(members.as_slice());
+    let axis = axis_of(members.as_slice(), window);
     page_with(alloc, axis, lanes, members.as_slice(), findings)
 }
 
@@ -61,7 +67,8 @@ fn page_of(alloc: Global, cluster: &Cluster, findings: &[Finding]) -> Result<Pag
 /// and schedule; a bar for each Job that the controller made for it, from its creation to its end,
 /// open at the right where it hasn't ended, grey where it is suspended, with a tick at its
 /// scheduled time; and a cross for each of these findings at its time, whose Jobs have a line
-/// around their bars, with what it means as its title. The number of findings is below, and then
+/// around their bars, with what it means as its title. It shows the window, and up to the last
+/// event; the bar of a Job that hasn't ended ends there. The number of findings is below, and then
 /// these words, line by line.
 ///
 /// The moments above the lanes are by the clock of the zone, or else by UTC. Of more than forty
@@ -73,13 +80,14 @@ fn page_of(alloc: Global, cluster: &Cluster, findings: &[Finding]) -> Result<Pag
 pub fn cluster_picture(
     alloc: Global,
     cluster: &Cluster,
+    window: Window,
     findings: &[Finding],
     words: &str,
     clock: Option<&Zone>,
 ) -> Result<String, Refusal>
     ensures err { IfErr result (λ e. e ≡ OutOfMemory) }
 {
-    let page = page_of(alloc, cluster, findings)?;
+    let page = page_of(alloc, cluster, window, findings)?;
     let mut below = summary(alloc, findings)?;
     below.push_str(words)?;
     page.text(
