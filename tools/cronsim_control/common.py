@@ -4,6 +4,7 @@ import logging
 import os
 import re
 import sys
+import threading
 import time
 from datetime import datetime, timezone
 
@@ -55,3 +56,25 @@ def one_line(said):
 
 def words_of(fault):
     return one_line(f"{type(fault).__name__}: {fault}")
+
+
+# Taken by the thread that ends the process, and never given back: one line alone says why.
+ENDING = threading.Lock()
+
+
+def vital(name, do, *given):
+    """Does the work of a thread. Where that fails, the process says so and ends: a process that
+    goes on without one of its threads would look healthy and do nothing."""
+    try:
+        return do(*given)
+    except BaseException as fault:
+        ENDING.acquire()
+        try:
+            VOICE.say("error", f"the {name} thread failed: {words_of(fault)}")
+        finally:
+            os._exit(1)
+
+
+def start(name, do, *given):
+    """Does vital work in a thread of its own."""
+    threading.Thread(target=vital, args=(name, do, *given), daemon=True).start()

@@ -16,8 +16,10 @@ from cronsim_control.common import VOICE, seconds
 
 
 # The program is asked each PERIOD; a scrape waits for its answer for WAIT. One that owes it for
-# longer than OWED doesn't answer; at the start, for longer than GRACE.
+# longer than OWED doesn't answer; at the start, for longer than GRACE. It is told the time each
+# second, and starts nothing without; CLOCK is the longest that this may take.
 PERIOD, WAIT, OWED, GRACE = seconds("PERIOD", 10), 2, seconds("OWED", 10), seconds("GRACE", 60)
+CLOCK = seconds("CLOCK", 30)
 FORMAT = "text/plain; version=0.0.4; charset=utf-8"
 # (as client-go has them)
 BOUNDS = (0.005, 0.025, 0.1, 0.25, 0.5, 1, 2, 4, 8, 15, 30, 60)
@@ -97,6 +99,8 @@ class Health:
         self.tell, self.begun, self.said = tell, time.monotonic(), {}
         # When the program was asked for what it owes, and when it answered last.
         self.asked = self.heard = None
+        # When it was told the time last.
+        self.ticked = self.begun
         self.news, self.wanted = threading.Condition(), threading.Event()
 
     def ask(self):
@@ -131,6 +135,9 @@ class Health:
         """Why the program isn't `healthy`, or `ready`; of none where it is."""
         if not self.answers():
             return "the program does not answer"
+        late = time.monotonic() - self.ticked
+        if late > CLOCK:
+            return f"the program has not been told the time for {late:.0f} seconds"
         if self.heard is None:
             return None if what == "healthy" else "the program has said nothing yet"
         if self.said.get(what) is True:
