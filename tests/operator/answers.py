@@ -232,6 +232,16 @@ def references():
     yield "the Jobs that started", [name for name, _ in stage.starts()], [FIRST]
 
 
+def a_reference():
+    """One alone is told of as one."""
+    stage = Stage()
+    stage.cron("c", "1 * * * *")
+    stage.has_status("c", active=[{"apiVersion": "batch/v1", "kind": "Job", "name": "../x"}])
+    stage.run(30)
+    told = [it for it in stage.said() if "status.active" in it]
+    yield "the line", told, ["cronjob n/c: status.active has a reference that names no Job"]
+
+
 def references_at_rest():
     """They are dropped where nothing is due, too."""
     stage = Stage()
@@ -242,4 +252,4 @@ def references_at_rest():
 
 
 CASES = (not_missing, is_missing, not_deleted, is_deleted, not_written, without_version)
-CASES += (holding, other_holds, no_hold, references, references_at_rest)
+CASES += (holding, other_holds, no_hold, references, a_reference, references_at_rest)

@@ -3,7 +3,7 @@ nobody claimed, Jobs that are held for good, and a second controller."""
 import re
 
 from server import MERGE
-from stage import MINUTES, OTHER, POD, Stage, refusal
+from stage import MINUTES, OTHER, POD, T0, Stage, refusal
 
 HOOK = 'admission webhook "x.example" denied the request: no "team" label'
 
@@ -111,12 +111,21 @@ def expired_event():
 
 
 def once_an_hour():
-    """After an hour it is told again."""
+    """After an hour it is told again, with how often it came; its Event is counted on."""
     stage = Stage()
     stage.cron("c", "*/20 * * * *")
     stage.meddle("POST", "/jobs$", refusal(422, "Invalid", HOOK))
     stage.run(5500)
-    yield "the lines", stage.said().count(refused_line(422)), 2
+    first, *others = [it for it in stage.said() if "to the creation of" in it]
+    yield "the first line", first, refused_line(422)
+    more = r" \((\d+) times more since the last such line\)"
+    found = [re.fullmatch(re.escape(refused_line(422)) + more, it) for it in others]
+    yield "one more", [bool(it) for it in found], [True]
+    times = len([it for it in stage.of("POST", "/jobs$") if it.heard < T0 + 3600])
+    yield "how often it came before", [int(it[1]) + 1 for it in found if it], [times]
+    yield "one Event is created", [it.status() for it in made(stage)], [201]
+    counts = [it.body["count"] for it in changed(stage)]
+    yield "whose count never falls", counts, sorted(counts)
 
 
 def many_events():

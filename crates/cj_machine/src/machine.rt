@@ -9,6 +9,8 @@ mod choosing;
 mod clearing;
 mod clock;
 mod driver;
+mod error_log;
+mod errors;
 mod event_log;
 mod events;
 mod finishing;

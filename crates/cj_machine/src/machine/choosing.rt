@@ -110,10 +110,18 @@ fn conflict_wait(conflicts: u64) -> u64 {
     if conflicts < 8 { 0 } else { 1_000 }
 }
 
+// Whether a sync was reading: the answer that ended it told nothing of what was to be read.
+fn was_reading(task: &Task) -> bool {
+    matches!(task.stage, Stage::Reading | Stage::Asking)
+}
+
 // What ended a sync says when the next one looks.
 fn over(task: &Task) -> Again {
     if is_conflict(task) {
         return Again::Live(conflict_wait(task.conflicts));
+    }
+    if was_reading(task) {
+        return Again::Failed;
     }
     match task.status {
         404 | 409 | 422 => Again::After(300),

@@ -159,6 +159,11 @@ impl Driver {
         self.clock.local()
     }
 
+    /// The hour of this machine's clock, since 1970.
+    pub fn hour(&self) -> u64 {
+        self.local() / 3_600
+    }
+
     /// The clock is at this second. Each minute people are told how things stand.
     pub fn set_clock(&mut self, alloc: Global, now: u64) -> Result<(), Refusal> {
         let before = self.local();

@@ -3,7 +3,8 @@
 use cj_base::{Refusal, Text};
 use std::alloc::Global;
 
-// How many Events are remembered, and for how many seconds: a server keeps them for an hour.
+// How many Events are remembered, and for how many seconds after they were written: a server keeps
+// them for an hour.
 const MOST_ROWS: usize = 2_000;
 
 const KEPT_FOR: u64 = 3_000;
@@ -18,8 +19,7 @@ pub(crate) struct EventRow {
     pub name: Text,
     /// How often it came.
     pub count: u64,
-    /// When it was told first, and when it was written last, in seconds since 1970.
-    pub first_at: u64,
+    /// When it was written last, in seconds since 1970.
     pub written_at: u64,
     /// The number of the request that wrote it last.
     pub id: Option<u64>,
@@ -31,7 +31,6 @@ impl Drop for EventRow {
             namespace,
             name,
             count: _,
-            first_at: _,
             written_at: _,
             id: _,
         } = self;
@@ -87,7 +86,7 @@ impl EventLog {
         let Some(row) = self.rows.get_mut(place) else {
             return Telling::Create;
         };
-        if row.first_at.saturating_add(KEPT_FOR) < now {
+        if row.written_at.saturating_add(KEPT_FOR) < now {
             self.rows.swap_remove(place);
             return Telling::Create;
         }

@@ -24,6 +24,8 @@ pub(crate) struct EventNote {
     pub reason: &'static str,
     pub is_warning: bool,
     pub message: String,
+    /// What it is counted by in place of its message, if that differs each time.
+    pub cause: Option<String>,
     /// Whether all replicas tell it as one.
     pub is_common: bool,
 }
@@ -37,12 +39,14 @@ impl Drop for EventNote {
             reason: _,
             is_warning: _,
             message,
+            cause,
             is_common: _,
         } = self;
         drop(namespace);
         drop(name);
         drop(uid);
         drop(message);
+        drop(cause);
     }
 }
 
@@ -70,12 +74,20 @@ fn object(alloc: Global, api: &str, note: &EventNote) -> Result<Value, Refusal> 
     Ok(object_of(alloc, OBJECT_NAMES, values)?)
 }
 
+// What an Event is counted by.
+fn cause(note: &EventNote) -> &str {
+    match &note.cause {
+        Some(cause) => cause.as_str(),
+        None => note.message.as_str(),
+    }
+}
+
 // The name of an Event: what it says of which object, and who tells it.
 fn event_name(alloc: Global, note: &EventNote, replica: &str) -> Result<Text, Refusal> {
     let (name, uid) = (note.name.as_str(), note.uid.as_str());
-    let (reason, message) = (note.reason, note.message.as_str());
+    let (reason, cause) = (note.reason, cause(note));
     let replica = if note.is_common { "" } else { replica };
-    let said = format!(in alloc; "{uid} {reason} {replica} {message}")?;
+    let said = format!(in alloc; "{uid} {reason} {replica} {cause}")?;
     let mark = mark_of(alloc, said.as_str())?;
     let mark = mark.as_str();
     Ok(Text::from_string(format!(in alloc; "{name}.{mark}")?))
@@ -180,6 +192,7 @@ pub(crate) fn event_of(
         reason,
         is_warning,
         message,
+        cause: None,
         is_common: false,
     })
 }
@@ -209,7 +222,6 @@ fn row_of(alloc: Global, note: &EventNote, name: &Text, now: u64) -> Result<Even
         namespace: note.namespace.try_copy(alloc)?,
         name: name.try_copy(alloc)?,
         count: 1,
-        first_at: now,
         written_at: now,
         id: None,
     })

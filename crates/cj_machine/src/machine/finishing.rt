@@ -1,8 +1,9 @@
 // A sync ends, and its key waits for the next one.
 
 use crate::machine::driver::Driver;
+use crate::machine::error_log::ErrorLog;
 use crate::machine::lasting::{
-    CLAIMED_WITHIN, say_conflict, say_left_job, say_missed, say_nameless, say_unmade,
+    CLAIMED_WITHIN, say_conflict, say_left_job, say_missed, say_nameless,
 };
 use crate::machine::memo::Memo;
 use crate::machine::saying::{say_held_back, say_left, say_why};
@@ -13,9 +14,13 @@ use cj_base::{Millis, Refusal, Seconds, Text, TryCopy};
 use cj_control::Ledger;
 use cj_types::Key;
 use std::alloc::Global;
+use std::mem;
 
 /// How many seconds an answer is waited for. A transport says before that that none came.
 const PATIENCE: u64 = 300;
+
+// After how many seconds a sync that could plan nothing is tried again at the latest.
+const UNPLANNED_FOR: u64 = 60;
 
 // A moment some milliseconds after the second.
 fn after(now: u64, wait: u64) -> u64 {
@@ -43,11 +48,12 @@ pub(crate) fn finish_key(driver: &mut Driver, key: &Key, again: &Again) -> Resul
 }
 
 // When a sync that failed is tried again at the latest, however long the queue's delay has become:
-// a minute after the time that it didn't claim, then each minute, and at its next time.
+// each minute where it could plan nothing; else a minute after the time that it didn't claim, then
+// each minute, and at its next time.
 fn latest(task: &Task, now: u64) -> Option<u64> {
     let next = match &task.plan {
         Some(plan) => plan.next,
-        None => None,
+        None => return Some(now.saturating_add(UNPLANNED_FOR)),
     };
     if task.due == 0 {
         return next;
@@ -123,7 +129,6 @@ fn say_reason(driver: &mut Driver, alloc: Global, task: &Task) -> Result<u64, Re
 fn keep(driver: &mut Driver, alloc: Global, task: &mut Task, again: &Again) -> Result<(), Refusal> {
     let left = say_refusal(driver, alloc, task)?;
     let minute = say_reason(driver, alloc, task)?;
-    let unmade = say_unmade(driver, alloc, task)?;
     let (due, missed) = say_missed(driver, alloc, task)?;
     let has_nameless = say_nameless(driver, alloc, task)?;
     let left_job = say_left_job(driver, alloc, task)?;
@@ -134,7 +139,7 @@ fn keep(driver: &mut Driver, alloc: Global, task: &mut Task, again: &Again) -> R
         conflicts,
         due,
         missed,
-        unmade,
+        errors: mem::replace(&mut task.errors, ErrorLog::new(alloc)),
         has_nameless,
         left_job,
         left,

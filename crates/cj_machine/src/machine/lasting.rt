@@ -2,9 +2,7 @@
 use crate::machine::choosing::is_conflict;
 use crate::machine::driver::Driver;
 use crate::machine::memo::Memo;
-use crate::machine::saying::{
-    tell_conflict, tell_left_job, tell_missed, tell_nameless, tell_unmade,
-};
+use crate::machine::saying::{tell_conflict, tell_left_job, tell_missed, tell_nameless};
 use crate::machine::task::{Stage, Task};
 use cj_base::{Refusal, Text, TryCopy};
 use std::alloc::Global;
@@ -32,49 +30,6 @@ pub(crate) fn say_conflict(
         tell_conflict(alloc, driver, task, conflicts)?;
     }
     Ok(conflicts)
-}
-
-// Whether people were told in this hour that a creation was refused in these words.
-fn was_told(driver: &Driver, task: &Task, words: &Text, hour: u64) -> bool {
-    match memo(driver, task) {
-        Some(memo) => match &memo.unmade {
-            Some((told, at)) => told.as_str() == words.as_str() && *at == hour,
-            None => false,
-        },
-        None => false,
-    }
-}
-
-// What people were told last of a creation that was refused, where no time was claimed since.
-fn last_unmade(
-    driver: &Driver,
-    alloc: Global,
-    task: &Task,
-) -> Result<Option<(Text, u64)>, Refusal> {
-    let Some(memo) = memo(driver, task) else {
-        return Ok(None);
-    };
-    match &memo.unmade {
-        Some((told, hour)) if !task.has_claimed => Ok(Some((told.try_copy(alloc)?, *hour))),
-        _ => Ok(None),
-    }
-}
-
-/// Says that a creation was refused, and how: each time by an Event, and in a line once an hour;
-/// what was told.
-pub(crate) fn say_unmade(
-    driver: &mut Driver,
-    alloc: Global,
-    task: &Task,
-) -> Result<Option<(Text, u64)>, Refusal> {
-    let Some(words) = &task.unmade else {
-        return last_unmade(driver, alloc, task);
-    };
-    let hour = driver.local() / 3_600;
-    let is_new = !was_told(driver, task, words, hour);
-    driver.numbers.refused_creates = driver.numbers.refused_creates.saturating_add(1);
-    tell_unmade(alloc, driver, task, words.as_str(), is_new)?;
-    Ok(Some((words.try_copy(alloc)?, hour)))
 }
 
 /// Says that a time that was planned before this sync was not claimed within a minute, once; the

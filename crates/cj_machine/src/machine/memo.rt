@@ -1,4 +1,5 @@
 // What is kept of a CronJob from one sync to the next.
+use crate::machine::error_log::ErrorLog;
 use cj_base::Text;
 
 /// What is kept of a CronJob from one sync to the next.
@@ -13,8 +14,8 @@ pub(crate) struct Memo {
     /// for none.
     pub due: u64,
     pub missed: u64,
-    /// What people were told of a creation that was refused, and in which hour.
-    pub unmade: Option<(Text, u64)>,
+    /// The errors that the API server answered to its calls.
+    pub errors: ErrorLog,
     /// Whether people were told that references of `status.active` name no Job.
     pub has_nameless: bool,
     /// The uid of the Job of which people were told that it is left to a newer version.
@@ -33,19 +34,20 @@ impl Drop for Memo {
             conflicts: _,
             due: _,
             missed: _,
-            unmade: _,
+            errors,
             has_nameless: _,
             left_job: _,
             left: _,
             minute: _,
         } = self;
+        drop(errors);
     }
 }
 
 impl Memo {
     /// Whether nothing is kept.
     pub fn is_empty(&self) -> bool {
-        let has_told = self.unmade.is_some() || self.has_nameless;
+        let has_told = !self.errors.is_empty() || self.has_nameless;
         let has_times = self.due != 0 || self.missed != 0 || self.minute != 0;
         let has_to_do = self.waits.is_some() || self.is_live || self.conflicts != 0;
         let has_left = self.left.is_some() || self.left_job.is_some();

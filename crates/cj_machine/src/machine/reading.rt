@@ -80,6 +80,14 @@ pub(crate) fn job_row(alloc: Global, value: &Value) -> Result<Option<Row<Job>>, 
     }
 }
 
+/// Whether a value is the Job of that name.
+pub(crate) fn is_job(alloc: Global, value: &Value, name: &Text) -> Result<bool, Refusal> {
+    match job_row(alloc, value)? {
+        Some(row) => Ok(row.name.as_str() == name.as_str()),
+        None => Ok(false),
+    }
+}
+
 /// The key of NAMESPACE/NAME, where it is one.
 pub(crate) fn key_of(alloc: Global, full: &str) -> Result<Option<Key>, Refusal> {
     let (namespace, name) = parts(full);

@@ -3,7 +3,7 @@ use crate::machine::driver::Driver;
 use crate::machine::events::{EventNote, event_of, note_event, push_event};
 use crate::machine::task::Task;
 use cj_base::{Refusal, Seconds, Text, both};
-use cj_control::{meta, parts, text_at};
+use cj_control::{meta, parts};
 use cj_fence::Call;
 use cj_types::{Key, Reason};
 use cj_zone::time_text;
@@ -195,115 +195,6 @@ pub(crate) fn say_held_back(
     say_skipped(alloc, driver, task, "JobAlreadyActive", false, message)
 }
 
-/// Says that the Jobs of a CronJob could not be listed.
-pub(crate) fn say_unlisted(alloc: Global, driver: &mut Driver, task: &Task) -> Result<(), Refusal> {
-    if !is_told(task.status) {
-        return Ok(());
-    }
-    let (name, status) = (task.name.as_str(), task.status);
-    let text = format!(in alloc;
-        "cronjob {name}: the API server answered {status} to the list of its Jobs"
-    )?;
-    driver.warn(text)
-}
-
-/// Says that the list of the Jobs of a CronJob has one that can't be read.
-pub(crate) fn say_unread_list(
-    alloc: Global,
-    driver: &mut Driver,
-    task: &Task,
-) -> Result<(), Refusal> {
-    let name = task.name.as_str();
-    let text = format!(in alloc;
-        "cronjob {name}: can't read the API server's list of its Jobs; asking again later"
-    )?;
-    driver.warn(text)
-}
-
-// Whether a status is a refusal that people should know of.
-fn is_told(status: u64) -> bool {
-    !matches!(status, 0 | 200 | 201 | 202 | 404 | 409 | 410 | 422)
-}
-
-/// Says that the API server refused a call, where people should know it.
-pub(crate) fn say_refused(
-    alloc: Global,
-    driver: &mut Driver,
-    task: &Task,
-    call: &Call,
-    body: Option<&Value>,
-) -> Result<(), Refusal> {
-    if !is_told(task.status) {
-        return Ok(());
-    }
-    let (name, status, what) = (task.name.as_str(), task.status, verb(call));
-    let why = server_words(alloc, body)?;
-    let why = why.as_str();
-    let text = format!(in alloc;
-        "cronjob {name}: the API server answered {status} to {what}{why}"
-    )?;
-    driver.warn(text)
-}
-
-// What a server says of a refusal, with a colon before it.
-fn server_words(alloc: Global, body: Option<&Value>) -> Result<String, Refusal> {
-    let message = match body {
-        Some(body) => text_at(body, "message"),
-        None => None,
-    };
-    match message {
-        Some(message) => Ok(format!(in alloc; ": {message}")?),
-        None => Ok(String::new(alloc)),
-    }
-}
-
-// What a server says to the creation of a Job that it didn't create, or not as it was sent.
-fn creation_words(alloc: Global, status: u64, body: Option<&Value>) -> Result<String, Refusal> {
-    if status == 201 {
-        return Ok(String::from_str(
-            alloc,
-            "it was created otherwise than it was sent, as by an admission webhook",
-        )?);
-    }
-    match body {
-        Some(body) => match text_at(body, "message") {
-            Some(message) => Ok(String::from_str(alloc, message)?),
-            None => Ok(format!(in alloc; "{status}, and no reason")?),
-        },
-        None => Ok(format!(in alloc; "{status}, and no reason")?),
-    }
-}
-
-/// The creation of a Job was refused, other than by its name: it is noted in which words.
-pub(crate) fn note_unmade(
-    alloc: Global,
-    task: &mut Task,
-    body: Option<&Value>,
-) -> Result<(), Refusal> {
-    let words = creation_words(alloc, task.status, body)?;
-    task.unmade = Some(Text::new(alloc, words.as_str())?);
-    Ok(())
-}
-
-/// Says that the creation of a Job was refused: by an Event, and in a line where that is new.
-pub(crate) fn tell_unmade(
-    alloc: Global,
-    driver: &mut Driver,
-    task: &Task,
-    words: &str,
-    is_new: bool,
-) -> Result<(), Refusal> {
-    if is_new {
-        let (name, status) = (task.name.as_str(), task.status);
-        let text = format!(in alloc;
-            "cronjob {name}: the API server answered {status} to the creation of its Job: {words}"
-        )?;
-        driver.warn(text)?;
-    }
-    let message = format!(in alloc; "Error creating job: {words}")?;
-    note_event(alloc, driver, task, "FailedCreate", true, message)
-}
-
 /// Says that a time was planned and not claimed within a minute.
 pub(crate) fn tell_missed(
     alloc: Global,
@@ -345,9 +236,11 @@ pub(crate) fn tell_nameless(
     count: u64,
 ) -> Result<(), Refusal> {
     let name = task.name.as_str();
-    let text = format!(in alloc;
-        "cronjob {name}: status.active has {count} references that name no Job"
-    )?;
+    let text = if count == 1 {
+        format!(in alloc; "cronjob {name}: status.active has a reference that names no Job")?
+    } else {
+        format!(in alloc; "cronjob {name}: status.active has {count} references that name no Job")?
+    };
     driver.warn(text)
 }
 
@@ -395,21 +288,8 @@ pub(crate) fn say_other(
         reason: "OtherController",
         is_warning: true,
         message,
+        cause: None,
         is_common: false,
     };
     push_event(driver, note)
-}
-
-fn verb(call: &Call) -> &'static str {
-    match call {
-        Call::GetCron(_) => "the GET of the CronJob",
-        Call::GetJob(_) => "the GET of a Job",
-        Call::Create(_, _) => "the creation of its Job",
-        Call::Claim(_) => "the claim in its status",
-        Call::Tidy(_) => "the write of its status",
-        Call::Start(_) => "the start of its Job",
-        Call::Delete(_) => "the deletion of a Job",
-        Call::Expire(_, _, _) => "the deletion of a Job",
-        Call::CacheCron(_) | Call::CacheJob(_) | Call::ListJobs => "nothing",
-    }
 }

@@ -1,12 +1,14 @@
 // A sync begins, and hears answers.
 
 use crate::machine::driver::Driver;
+use crate::machine::error_log::ErrorLog;
+use crate::machine::errors::{
+    say_refused, say_unlisted, say_unmade, say_unread_job, say_unread_list,
+};
 use crate::machine::finishing::{finish_key, settle};
 use crate::machine::others::take_listed;
-use crate::machine::reading::{found_job, has_unknown_hold, parts_before, take_cron};
-use crate::machine::saying::{
-    note_unmade, say_deleted, say_passed, say_refused, say_started, say_unlisted, say_unread_list,
-};
+use crate::machine::reading::{found_job, has_unknown_hold, is_job, parts_before, take_cron};
+use crate::machine::saying::{say_deleted, say_passed, say_started};
 use crate::machine::steps;
 use crate::machine::task::{Again, Stage, Task};
 use crate::machine::walking::{Went, walk};
@@ -27,6 +29,7 @@ fn task_of(alloc: Global, driver: &Driver, key: Key, by: HeldBy) -> Result<Task,
         Some(memo) => (memo.is_live, memo.conflicts, copy_of(alloc, &memo.waits)?),
         None => (false, 0, None),
     };
+    let errors = last_errors(alloc, driver, &key)?;
     Ok(Task {
         key,
         name,
@@ -39,7 +42,7 @@ fn task_of(alloc: Global, driver: &Driver, key: Key, by: HeldBy) -> Result<Task,
         due: 0,
         has_claimed: false,
         nameless: 0,
-        unmade: None,
+        errors,
         stage: Stage::Reading,
         is_second: false,
         status: 0,
@@ -63,6 +66,14 @@ fn copy_of(alloc: Global, waits: &Option<(Text, u64)>) -> Result<Option<(Text, u
     match waits {
         Some((uid, since)) => Ok(Some((uid.try_copy(alloc)?, *since))),
         None => Ok(None),
+    }
+}
+
+// The errors of its earlier syncs that people were told of.
+fn last_errors(alloc: Global, driver: &Driver, key: &Key) -> Result<ErrorLog, Refusal> {
+    match driver.memos.get(key) {
+        Some(memo) => memo.errors.since(alloc, driver.hour()),
+        None => Ok(ErrorLog::new(alloc)),
     }
 }
 
@@ -149,9 +160,10 @@ fn note(
 ) -> Result<(), Refusal> {
     match call {
         Call::GetCron(_) if task.status == 200 => note_cron(alloc, task, body),
-        Call::GetJob(_) if task.stage == Stage::Asking => note_job(alloc, task, body),
-        Call::GetJob(_) if task.status == 200 => note_hold(alloc, task, body),
-        Call::Create(_, _) if is_unmade(ledger, task) => note_unmade(alloc, task, body),
+        Call::GetJob(job) => note_read(ledger, alloc, driver, task, job, body),
+        Call::Create(job, _) if is_unmade(ledger, task) => {
+            say_unmade(alloc, driver, task, job.as_str(), body)
+        }
         Call::Claim(_) if task.status == 200 => {
             task.has_claimed = is_claimed(ledger, task);
             say_passed(alloc, driver, task)
@@ -174,6 +186,23 @@ fn goes_on(ledger: &Ledger, task: &Task) -> bool {
     match ledger.get(task.number) {
         Some(row) => !matches!(row.sync, Sync::Over),
         None => false,
+    }
+}
+
+// Whether a sync ends since the answer to its GET of a Job says nothing of that Job.
+fn is_unread(
+    ledger: &Ledger,
+    alloc: Global,
+    task: &Task,
+    job: &Text,
+    body: Option<&Value>,
+) -> Result<bool, Refusal> {
+    if task.status == 0 || goes_on(ledger, task) {
+        return Ok(false);
+    }
+    match body {
+        Some(body) if task.status == 200 => Ok(!is_job(alloc, body, job)?),
+        _ => Ok(true),
     }
 }
 
@@ -228,6 +257,25 @@ fn note_hold(alloc: Global, task: &mut Task, body: Option<&Value>) -> Result<(),
         task.unknown_hold = Some(uid_of(alloc, body)?);
     }
     Ok(())
+}
+
+// What the answer to the GET of a Job says.
+fn note_read(
+    ledger: &Ledger,
+    alloc: Global,
+    driver: &mut Driver,
+    task: &mut Task,
+    job: &Text,
+    body: Option<&Value>,
+) -> Result<(), Refusal> {
+    if is_unread(ledger, alloc, task, job, body)? {
+        return say_unread_job(alloc, driver, task, job.as_str(), body);
+    }
+    match task.stage {
+        Stage::Asking => note_job(alloc, task, body),
+        _ if task.status == 200 => note_hold(alloc, task, body),
+        _ => Ok(()),
+    }
 }
 
 fn note_job(alloc: Global, task: &mut Task, body: Option<&Value>) -> Result<(), Refusal> {

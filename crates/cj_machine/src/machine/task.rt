@@ -1,4 +1,5 @@
 // The errand of a sync: what it is at, beside what the protocol knows of it.
+use crate::machine::error_log::ErrorLog;
 use cj_base::Text;
 use cj_control::CronParts;
 use cj_fence::{Job, Ref, Row};
@@ -125,8 +126,8 @@ pub(crate) struct Task {
     pub has_claimed: bool,
     /// How many references of `status.active` name no Job.
     pub nameless: u64,
-    /// What the server said of a creation that it refused.
-    pub unmade: Option<Text>,
+    /// The errors that the API server answered to calls of this sync and of earlier ones.
+    pub errors: ErrorLog,
     pub stage: Stage,
     /// Whether the second name of a Job is tried.
     pub is_second: bool,
@@ -172,7 +173,7 @@ impl Drop for Task {
             due: _,
             has_claimed: _,
             nameless: _,
-            unmade: _,
+            errors,
             stage: _,
             is_second: _,
             status: _,
@@ -192,6 +193,7 @@ impl Drop for Task {
         } = self;
         drop(key);
         drop(name);
+        drop(errors);
         drop(parts);
         drop(cron);
         drop(plan);
