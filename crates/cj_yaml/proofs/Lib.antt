@@ -1,10 +1,13 @@
 pub mod Blocks
+pub mod Breaks
 pub mod CodedTexts
 pub mod Depths
 pub mod JsonTexts
+pub mod Leading
 pub mod Lines
 pub mod Odd
 pub mod PlainEnds
 pub mod PlainTexts
 pub mod PrintedTexts
 pub mod Printing
+pub mod Stands

@@ -38,7 +38,7 @@ no_gap x is space =
     refl
 
 -- What is not true is false.
-not_true : (b : Bool) → not b ≡ true → b ≡ false
+pub not_true : (b : Bool) → not b ≡ true → b ≡ false
 not_true false e = refl
 not_true true e = absurd (true≢false (sym e))
 
@@ -80,7 +80,7 @@ rest_stops rest blank e =
     ((get_or rest 0 0 == 35) && blank) e
 
 -- The byte at an offset is the first of what is left there, and so on.
-byte_at : (s xs : List ℕ) (i k n : ℕ) → i + k ≡ n → drop i s ≡ xs → get_or s n 0 ≡ get_or xs k 0
+pub byte_at : (s xs : List ℕ) (i k n : ℕ) → i + k ≡ n → drop i s ≡ xs → get_or s n 0 ≡ get_or xs k 0
 byte_at s xs i k n e same =
     ap (λ (j : ℕ). get_or s j 0) (sym e) ∙ sym (get_or-drop i s k 0) ∙ ap (λ ys. get_or ys k 0) same
 

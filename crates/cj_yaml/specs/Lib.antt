@@ -1,4 +1,5 @@
 pub mod BlockStyle
+pub mod Cursors
 pub mod Escapes
 pub mod OnLines
 pub mod Places

@@ -1,6 +1,8 @@
 // Block mappings and lists (YAML 1.2.2, chapter 8).
-ghost use Rattle.std.specs.Prelude.{◌≡◌, ◌≤◌, ◌+◌, ◌==◌, ℕ, List, IfOk, slice_index};
+ghost use Rattle.std.specs.Prelude.{◌≡◌, ◌≤◌, ◌+◌, ◌==◌, ℕ, List, IfOk, IsOkAnd, IsUtf8, drop, false, slice_index, string_bytes, true};
+ghost use Rattle.cj_yaml.specs.Cursors.{IsBefore, IsOnLine, OkOrMemory, goes_on, is_line};
 ghost use Rattle.cj_yaml.specs.OnLines.{StandsPlain};
+ghost use Rattle.cj_yaml.specs.Words.{IsPlainText};
 ghost use Rattle.serde_json.specs.Data.{depth};
 ghost use Rattle.serde_json.specs.View.{view};
 
@@ -69,7 +71,12 @@ impl<'a> Reader<'a> {
     }
 
     // Reads the plain key at the cursor.
-    fn plain_key(&mut self, flow: bool) -> Result<Key, Stop> {
+    fn plain_key(&mut self, flow: bool) -> Result<Key, Stop>
+        ensures printed { (t rest : List ℕ) → flow ≡ false
+            → StandsPlain self.old.cursor.text.now self.old.cursor.at t rest → IsPlainText t
+            → IsUtf8 t → OkOrMemory result (λ key. (string_bytes key.text ≡ t)
+            × (drop self.new.cursor.at self.new.cursor.text.now ≡ rest)) }
+    {
         let at = self.cursor.at;
         let text = self.cursor.text;
         let (shown, stop) = plain_on_line(text, at, flow);
@@ -319,7 +326,12 @@ impl<'a> Reader<'a> {
     }
 
     // Whether a further line of the collection at this column follows.
-    fn goes_on(&mut self, column: usize) -> Result<bool, Stop> {
+    fn goes_on(&mut self, column: usize) -> Result<bool, Stop>
+        ensures printed { (n : ℕ) (rest : List ℕ) → is_line n rest ≡ true
+            → IsBefore self.old.cursor n rest → n ≤ column
+            → IsOkAnd result (λ more. more ≡ goes_on column n rest)
+            × IsOnLine self.new.cursor n rest }
+    {
         match self.cursor.next_content()? {
             Some(next) if next > column => Err(self.cursor.fault(FaultKind::Indentation)),
             Some(next) => Ok(next == column),

@@ -1,5 +1,6 @@
 // Bytes by their kind, and where runs of them end (YAML 1.2.2, chapters 5 and 6).
-ghost use Rattle.std.specs.Prelude.{◌≡◌, ◌+◌, ◌-◌, ◌<◌, ◌++◌, ℕ, List, drop, false, length, slice_index};
+ghost use Rattle.std.specs.Prelude.{◌≡◌, ◌+◌, ◌-◌, ◌<◌, ◌≤◌, ◌++◌, ℕ, List, drop, false, length, slice_index};
+ghost use Rattle.cj_yaml.specs.Cursors.{break_len, ends_marker, is_mark, is_marker, is_space, leading};
 ghost use Rattle.cj_yaml.specs.OnLines.{is_blank, is_break, is_gap, is_quote};
 ghost use Rattle.cj_yaml.specs.Places.{ends_line, mark_len};
 
@@ -50,6 +51,8 @@ pub(crate) fn is_flow_mark(b: u8) -> bool {
 pub(crate) fn blanks_end(text: &[u8], from: usize) -> usize
     ensures none { from < length text.now → is_blank (slice_index text.now from) ≡ false
         → result ≡ from }
+    ensures blanks { from ≤ length text.now
+        → result ≡ from + leading is_blank (drop from text.now) }
 {
     for at in from..text.len() {
         if !is_blank(text[at]) {
@@ -60,7 +63,9 @@ pub(crate) fn blanks_end(text: &[u8], from: usize) -> usize
 }
 
 // The first offset from there on whose byte is no space.
-pub(crate) fn spaces_end(text: &[u8], from: usize) -> usize {
+pub(crate) fn spaces_end(text: &[u8], from: usize) -> usize
+    ensures { from ≤ length text.now → result ≡ from + leading is_space (drop from text.now) }
+{
     for at in from..text.len() {
         if text[at] != b' ' {
             return at;
@@ -80,7 +85,9 @@ pub(crate) fn line_end(text: &[u8], from: usize) -> usize {
 }
 
 // How many bytes the line break at an offset has; none where there is none.
-pub(crate) fn break_len(text: &[u8], at: usize) -> usize {
+pub(crate) fn break_len(text: &[u8], at: usize) -> usize
+    ensures { result ≡ break_len text.now at }
+{
     match byte(text, at) {
         b'\n' => 1,
         b'\r' => if byte(text, at.saturating_add(1)) == b'\n' {
@@ -106,13 +113,28 @@ pub(crate) fn trimmed(text: &[u8], start: usize, end: usize) -> usize
     start
 }
 
+// A byte of a document's marker.
+fn is_mark(b: u8) -> bool
+    ensures { result ≡ is_mark b }
+{
+    b == b'-' || b == b'.'
+}
+
+// Whether a byte stands there twice, and then a gap.
+fn ends_marker(text: &[u8], at: usize, b: u8) -> bool
+    ensures { result ≡ ends_marker text.now at b }
+{
+    let second = byte(text, at);
+    let third = byte(text, at.saturating_add(1));
+    second == b && third == b && is_gap(byte(text, at.saturating_add(2)))
+}
+
 // Whether a line that begins there is a document's `---` or `...` (c-forbidden).
-pub(crate) fn is_marker(text: &[u8], at: usize) -> bool {
+pub(crate) fn is_marker(text: &[u8], at: usize) -> bool
+    ensures { result ≡ is_marker text.now at }
+{
     let first = byte(text, at);
-    (first == b'-' || first == b'.')
-        && byte(text, at.saturating_add(1)) == first
-        && byte(text, at.saturating_add(2)) == first
-        && is_gap(byte(text, at.saturating_add(3)))
+    is_mark(first) && ends_marker(text, at.saturating_add(1), first)
 }
 
 // A part of the text; empty where the offsets are in no order or past its end.
@@ -136,6 +158,13 @@ pub(crate) fn last_line(text: &[u8], from: usize, to: usize) -> Option<usize> {
         }
     }
     None
+}
+
+// The offset behind the line break at an offset; that offset where there is none.
+pub(crate) fn break_end(text: &[u8], at: usize) -> usize
+    ensures { result ≡ at + break_len text.now at }
+{
+    at.saturating_add(break_len(text, at))
 }
 
 // How many bytes the byte order mark in front of a text has; none where there is none (5.2).
