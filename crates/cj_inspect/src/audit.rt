@@ -269,11 +269,15 @@ fn list_audited(
         (outcome_of a)) }
 {
     let (explain, first) = (audit_of.explain, since);
+    let (from, until) = (since, now);
     let all = audit(alloc, zones, &list.cluster, list.notes.as_slice())?;
     let findings = seen(all, since);
     let look = cluster_look(alloc, &list.cluster, first, now)?;
     let words = words(alloc, list, &findings)?;
-    let window = Window { since, now };
+    let window = Window {
+        since: from,
+        now: until,
+    };
     let printed = printed(
         alloc, audit_of, zones, files, &look, window, list, &findings,
     )?;

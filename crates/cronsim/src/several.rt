@@ -183,19 +183,13 @@ fn bytes_of(rt: &HostRuntime, name: &str, files: Files) -> Result<Option<Taken>,
     }
 }
 
-// The bytes of a file and its name.
-#[derive(Drop)]
-struct NamedBytes<'a> {
-    name: &'a str,
-    bytes: Vec<u8>,
-}
-
-// The bytes of all files but for those that are passed over; none where one can't be read.
-fn all_bytes<'a>(
+// The bytes of all files, without those of a file that is passed over; none where one can't be
+// read.
+fn all_bytes(
     rt: &HostRuntime,
-    names: &[&'a str],
+    names: &[&str],
     files: Files,
-) -> Result<Option<Vec<NamedBytes<'a>>>, Failure> {
+) -> Result<Option<Vec<Option<Vec<u8>>>>, Failure> {
     let mut all = Vec::new(rt.alloc());
     let mut passed = Passed::NOTHING;
     for name in names {
@@ -204,9 +198,7 @@ fn all_bytes<'a>(
         };
         passed = passed.with(&taken);
         let Taken { bytes, is_bare, .. } = taken;
-        if !is_bare {
-            all.push(NamedBytes { name: *name, bytes })?;
-        }
+        all.push(if is_bare { None } else { Some(bytes) })?;
     }
     tell_passed(passed, &mut rt.stderr());
     Ok(Some(all))
@@ -259,10 +251,12 @@ pub fn serve_upcoming_files(
     };
     let mut zone_files = Vec::new(alloc);
     let mut sources = Vec::new(alloc);
-    for NamedBytes { name, bytes } in all.as_slice() {
-        let bytes = bytes.as_slice();
-        push_input_files(rt, &mut zone_files, folder, bytes)?;
-        sources.push(CronFile { name: *name, bytes })?;
+    for (name, bytes) in upcoming.files.as_slice().iter().zip(all.as_slice()) {
+        if let Some(bytes) = bytes {
+            let bytes = bytes.as_slice();
+            push_input_files(rt, &mut zone_files, folder, bytes)?;
+            sources.push(CronFile { name: *name, bytes })?;
+        }
     }
     let rules = upcoming.zones.rules.as_slice();
     push_clock_file(rt, &mut zone_files, folder, rules, upcoming.clock.zone)?;
@@ -316,10 +310,12 @@ pub fn serve_report_files(
     };
     let mut zone_files = Vec::new(alloc);
     let mut sources = Vec::new(alloc);
-    for NamedBytes { name, bytes } in all.as_slice() {
-        let bytes = bytes.as_slice();
-        push_input_files(rt, &mut zone_files, folder, bytes)?;
-        sources.push(CronFile { name: *name, bytes })?;
+    for (name, bytes) in report.files.as_slice().iter().zip(all.as_slice()) {
+        if let Some(bytes) = bytes {
+            let bytes = bytes.as_slice();
+            push_input_files(rt, &mut zone_files, folder, bytes)?;
+            sources.push(CronFile { name: *name, bytes })?;
+        }
     }
     Ok(serve_page(rt, report, zone_files.as_slice(), sources.as_slice()))
 }
